@@ -6,7 +6,6 @@ ghost use Rattle.chess_core.specs.WellFormed.{IsWellFormed};
 ghost use Rattle.chess_rules.specs.Legal.{is_legal, moves as legal_moves};
 ghost use Rattle.chess_rules.specs.Play.{position_after, undo_of};
 ghost use Rattle.chess_rules.specs.ties.Places.{IsPlaceIn};
-ghost use Rattle.pop_stipulation.specs.declared.stipulation.Goal.TheVariants.{Mate};
 ghost use Rattle.pop_battle.specs.Chess.{chess};
 ghost use Rattle.pop_battle.specs.Game.{can_move as has_move};
 ghost use Rattle.pop_battle.specs.Walks.{walk_count};
@@ -14,15 +13,11 @@ ghost use Rattle.pop_stipulation.specs.declared.stipulation.Battle.TheVariants.{
 ghost use Rattle.pop_battle.specs.ties.Calls.{Evaluates, EvaluatesMate};
 ghost use Rattle.pop_battle.specs.ties.Counts.{HasCounted, smallest_tree};
 ghost use Rattle.pop_battle.specs.ties.Frames.{CameFrom, CameFromAt, Ends, IsOpenedOn, IsTesting, Turns, left_at_top, tests};
-ghost use Rattle.pop_battle.specs.ties.Marks.{is_for_mate};
 ghost use Rattle.pop_battle.specs.ties.Values.{attacker_to_move, joined_value, value};
 
 use crate::aim::Aim;
-use crate::chess::{
-    cursor_if_any_move, is_for_mate, is_reached_without_move, moves_at, reaches_goal,
-};
+use crate::chess::{cursor_if_any_move, is_reached_without_move, moves_at, reaches_goal};
 use crate::frame::{Frame, MoveStage};
-use crate::killers::Killers;
 use crate::last_defence::{has_mate, value_of_last_defence};
 use crate::last_move::value_of_last_move;
 use crate::mate_in_two::mates_in_two;
@@ -60,33 +55,26 @@ fn value_without_move<R: Rules>(goal: Goal, left: usize, board: &Board) -> bool
     left % 2 == 0 && is_reached_without_move::<R>(goal, board)
 }
 
-/// Returns the value of a position with one half-move left, for mate: White mates, or Black must mate.
-#[tactic(auto, using(crate::proofs::Boards::some_move, crate::proofs::Values::last_half_move))]
-fn last_value<R: Rules>(battle: Battle, board: &mut Board, killers: &mut Killers<R>) -> bool
+/// Returns the value of a position with one half-move left in a direct mate for mate: whether White mates.
+#[tactic(auto, using(crate::proofs::Boards::some_move, crate::proofs::Boards::settling, crate::proofs::SmallestTrees::shortest, crate::proofs::Values::last_half_move))]
+fn value_of_last_mate<R: Rules>(board: &mut Board, search_state: &mut SearchState<R>) -> bool
     requires well_formed { IsWellFormed board.old }
-    ensures unchanged { board.new ≡ board.old }
-    ensures value { result ≡ value battle (chess Mate R.rule) 1 board.old }
-{
-    match battle {
-        Battle::Direct => has_mate::<R>(board, killers),
-        Battle::Selfmate => every_move_mates::<R>(board),
-    }
-}
-
-/// Returns the value of a position with two half-moves left, for mate.
-fn value_of_two<R: Rules>(
-    battle: Battle,
-    board: &mut Board,
-    search_state: &mut SearchState<R>,
-) -> bool
-    requires well_formed { IsWellFormed board.old }
-    ensures { EvaluatesMate R.rule battle 2 board.old board.new search_state.old.opened
+    ensures { EvaluatesMate R.rule Direct 1 board.old board.new search_state.old.opened
         search_state.new.opened result }
 {
-    match battle {
-        Battle::Direct => value_of_last_defence::<R>(board, search_state),
-        Battle::Selfmate => value_of_last_move::<R>(board, search_state),
-    }
+    search_state.opened = search_state.opened.saturating_add(1);
+    has_mate::<R>(board, &mut search_state.killers)
+}
+
+/// Returns the value of a position with one half-move left in a selfmate for mate: whether Black must mate.
+#[tactic(auto, using(crate::proofs::Boards::some_move, crate::proofs::Boards::settling, crate::proofs::SmallestTrees::shortest, crate::proofs::Values::last_half_move))]
+fn value_of_last_reply<R: Rules>(board: &mut Board, search_state: &mut SearchState<R>) -> bool
+    requires well_formed { IsWellFormed board.old }
+    ensures { EvaluatesMate R.rule Selfmate 1 board.old board.new search_state.old.opened
+        search_state.new.opened result }
+{
+    search_state.opened = search_state.opened.saturating_add(1);
+    every_move_mates::<R>(board)
 }
 
 /// Returns the value of a position if it can be decided without a frame; otherwise `None`, with what is
@@ -118,27 +106,22 @@ fn value_at_once<R: Rules>(
         (smallest_tree aim.battle (chess aim.goal R.rule) left board.old)) }
 {
     *known = None;
-    if left == 0 {
-        return Some(reaches_goal::<R>(aim.goal, board));
-    }
-    if is_for_mate(aim.goal) && left == 1 {
-        search_state.opened = search_state.opened.saturating_add(1);
-        return Some(last_value::<R>(aim.battle, board, &mut search_state.killers));
-    }
-    if is_for_mate(aim.goal) && aim.battle == Battle::Direct && left == 3 {
-        return Some(mates_in_two::<R>(board, search_state));
-    }
-    if is_free(aim.battle, left) {
-        return None;
-    }
-    if is_for_mate(aim.goal) && left == 2 {
-        return Some(value_of_two::<R>(aim.battle, board, search_state));
-    }
-    *known = cursor_if_any_move::<R>(search_state.killers.of(aim.battle, left), board);
-    if known.is_some() {
-        None
-    } else {
-        Some(value_without_move::<R>(aim.goal, left, board))
+    match (aim.goal, aim.battle, left) {
+        (goal, _, 0) => Some(reaches_goal::<R>(goal, board)),
+        (Goal::Mate, Battle::Direct, 1) => Some(value_of_last_mate::<R>(board, search_state)),
+        (Goal::Mate, Battle::Selfmate, 1) => Some(value_of_last_reply::<R>(board, search_state)),
+        (Goal::Mate, Battle::Direct, 2) => Some(value_of_last_defence::<R>(board, search_state)),
+        (Goal::Mate, Battle::Selfmate, 2) => Some(value_of_last_move::<R>(board, search_state)),
+        (Goal::Mate, Battle::Direct, 3) => Some(mates_in_two::<R>(board, search_state)),
+        (_, battle, _) if is_free(battle, left) => None,
+        (goal, battle, _) => {
+            *known = cursor_if_any_move::<R>(search_state.killers.of(battle, left), board);
+            if known.is_some() {
+                None
+            } else {
+                Some(value_without_move::<R>(goal, left, board))
+            }
+        }
     }
 }
 

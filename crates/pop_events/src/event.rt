@@ -1,6 +1,7 @@
 //! The events of a search.
 use crate::shown::Shown;
 use arrayvec::ArrayVec;
+use pop_stipulation::MOST_HALF_MOVES;
 
 /// A phase of a problem, which has its own solutions: set play, in which the other side starts, or the play.
 #[derive(Clone, Copy, Debug, PartialEq, Eq)]
@@ -20,7 +21,7 @@ pub enum Event {
     /// A solution of help play: its moves. `half` is the number of the first move's half-move, counted from 1.
     Line {
         half: u32,
-        moves: ArrayVec<Shown, 32>,
+        moves: ArrayVec<Shown, MOST_HALF_MOVES>,
     },
     /// A move of battle play in the tree of a solution. `depth` is the number of moves above it in the tree, 0 for the
     /// first; `half` is the number of its half-move, counted from 1.

@@ -7,7 +7,8 @@ use Rattle.pop_battle.proofs.Boards.{after_start}
 use Rattle.pop_walk.proofs.Outcomes.{CameFrom-deep, walking-close, walking-learned, walking-moved}
 use Rattle.pop_battle.specs.ties.Frames.{learned, moved, opened_frame}
 use Rattle.pop_walk.proofs.Walking.{popped}
-use Rattle.pop_walk.proofs.ToCome.{map-path, steps-start, work_after-next}
+use Rattle.pop_walk.proofs.StepsLeft.{turns-enter, turns-unfollowed}
+use Rattle.pop_walk.proofs.ToCome.{map-path}
 use Rattle.pop_parts.specs.ties.Beginnings.{FindsNumbered, IsSeeking, Seeks, beginnings_by, beginnings_to_come}
 use Rattle.pop_walk.specs.ties.Beginnings.{are_idle}
 
@@ -40,20 +41,6 @@ come-closed : (goal : Goal) (rule : RuleSet) (d : ℕ) (p : Position) (f : Frame
     → moves_after rule (position rule p (f ∷ below)) f.place ≡ [] → beginnings_to_come goal rule d p (f ∷ below) ≡ beginnings_to_come goal rule d p below
 unfolding beginnings_to_come beginnings_by
 come-closed goal rule d p f below e = rw e refl
-
-turns-found : (rule : RuleSet) (h : ℕ) (p : Position) (f : Frame) (next : ℕ) (m : Move) (below : List Frame) → length below < h
-    → moves_after rule (position rule p (f ∷ below)) f.place ≡ m ∷ moves_after rule (position rule p (f ∷ below)) next
-    → walk_work rule h p (moved f next ∷ below) < walk_work rule h p (f ∷ below)
-unfolding walk_work position
-turns-found rule h p f next m below less e =
-    search (rules, work_after-next rule (h - length below - 1) (position rule p (f ∷ below)) f.place next m e)
-
-turns-deeper : (rule : RuleSet) (h : ℕ) (p : Position) (f : Frame) (next : ℕ) (m : Move) (below : List Frame) (undo : Undo) → length below + 1 < h
-    → moves_after rule (position rule p (f ∷ below)) f.place ≡ m ∷ moves_after rule (position rule p (f ∷ below)) next
-    → walk_work rule h p (opened_frame m undo 0 ∷ (moved f next ∷ below)) < walk_work rule h p (f ∷ below)
-unfolding walk_work position
-turns-deeper rule h p f next m below undo less e =
-    search (rules, work_after-next rule (h - length below - 1) (position rule p (f ∷ below)) f.place next m e, steps-start)
 
 walking-idle : (rule : RuleSet) (h : ℕ) (p : Position) (f : Frame) (next : ℕ) (m : Move) (below : List Frame) (board after : Position)
     → IsWalking rule h p (f ∷ below) board → length below + 1 ≤ h → is_legal rule board m ≡ true → after ≡ position_after rule board m
@@ -118,7 +105,8 @@ module _ (rule : RuleSet) (h d : ℕ) (p : Position) (top : Frame) (old new : Li
         let at : length (reverse new) + 1 ≡ d = omega (arith, last, length-reverse new, ap length put ∙ length-append new (moved f place ∷ [])) in
         let walking = walking-moved rule h p f place (reverse new) board board known_top in
         let found = λ (goal : Goal). come-found goal rule d p f place m (reverse new) following at in
-        let falls = turns-found rule h p f place m (reverse new) in
+        let fuel : d - length (reverse new) ≡ suc (d - length (reverse new) - 1) = omega (arith, at) in
+        let falls = turns-unfollowed rule d _ f (reverse new) place m _ fuel following in
         rw (at_top, at_mid, e) (search (rules, walking, idle_top, deep, s.room, found, at, falls, following))
 
     -- the next move leads on to a deeper frame
@@ -133,7 +121,8 @@ module _ (rule : RuleSet) (h d : ℕ) (p : Position) (top : Frame) (old new : Li
         let u2 : undo ≡ undo_of rule board m = rw e at u in
         let walking = walking-idle rule h p f place m (reverse new) board after known_top in
         let found = λ (goal : Goal). come-deeper goal rule d p f place m (reverse new) following undo less in
-        let falls = turns-deeper rule h p f place m (reverse new) undo in
+        let fuel : d - length (reverse new) ≡ suc (d - length (reverse new) - 1) = omega (arith, less) in
+        let falls = turns-enter rule d _ f (reverse new) place m _ fuel following undo 0 in
         rw (at_top, at_last, at_mid) (search (rules, u2, walking, idle_top, deep, s.room, found, falls, following, next.1, e))
 
 -- steps on the way to the beginning with a number

@@ -8,6 +8,7 @@ ghost use Rattle.pop_print.specs.Notation.{blank};
 use crate::line::{LONGEST, LONGEST_NUMBER, LineBuffer};
 use crate::moves::MOVE;
 use pop_events::{Event, Phase, Shown};
+use pop_stipulation::MOST_HALF_MOVES;
 use pop_text::{Sink, SinkFault, put_all};
 
 // The room in bytes for a total, or for a node of battle play with at most 64 blanks before it (own).
@@ -19,8 +20,8 @@ const PREFIX: usize = 23;
 // The most bytes before a move of a line.
 const MOVE_NUMBER: usize = PREFIX + 1;
 
-// The most bytes of a line's moves: 32, each with its number.
-const MOVES: usize = 32 * (MOVE_NUMBER + MOVE);
+// The most bytes of a line's moves, each with its number.
+const MOVES: usize = MOST_HALF_MOVES * (MOVE_NUMBER + MOVE);
 
 // The most bytes of what comes before a count, and of what follows it.
 const LABEL: usize = 16;
@@ -51,7 +52,7 @@ pub fn print_event<W: Sink>(sink: &mut W, event: &Event) -> Result<(), SinkFault
 // Writes a line of help play.
 fn print_line<W: Sink>(sink: &mut W, half: u32, moves: &[Shown]) -> Result<(), SinkFault>
     requires sink { W.failures sink.old < greatest_count }
-    requires room { length moves.now ≤ 32 }
+    requires room { length moves.now ≤ MOST_HALF_MOVES }
     ensures bytes { Writes (W.taken sink.old) (W.taken sink.new) (line_text half moves.now) result }
     ensures counted { W.failures sink.new ≡ count_after result (W.failures sink.old) }
 {
@@ -178,7 +179,7 @@ impl<const N: usize> LineBuffer<N> {
     // Adds the moves of a line. `half` is the number of the first move's half-move.
     fn add_moves(&mut self, half: u64, moves: &[Shown])
         requires room { length self.old + MOVES ≤ N }
-        requires moves { length moves.now ≤ 32 }
+        requires moves { length moves.now ≤ MOST_HALF_MOVES }
         requires half { half < 2 ^ 32 }
         ensures text { self.new ≡ self.old ++ moves_text true half moves.now }
         ensures short { length self.new ≤ length self.old + MOVES }
@@ -196,7 +197,7 @@ impl<const N: usize> LineBuffer<N> {
     // Adds a line of help play.
     fn add_line(&mut self, half: u32, moves: &[Shown])
         requires room { length self.old + MOVES + 1 ≤ N }
-        requires moves { length moves.now ≤ 32 }
+        requires moves { length moves.now ≤ MOST_HALF_MOVES }
         ensures { self.new ≡ self.old ++ line_text half moves.now }
     {
         self.add_moves(u64::from(half), moves);

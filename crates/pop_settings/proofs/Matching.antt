@@ -19,9 +19,9 @@ module _ (r : Result ArgMatches Error) (given command : App) (words : List Text)
   matched_rows is simple h = IfOk-weaker r _ _ (λ m has. (has simple).0) (subst (λ a. IfOk r (HasMatchesOf a words)) is h)
 
   -- words that the command takes fail only for lack of memory
-  pub matched_passes : given ≡ command → IfErr r (λ e. takes given words ≡ true → kind_of e ≡ OutOfMemory)
+  pub matched_memory : given ≡ command → IfErr r (λ e. takes given words ≡ true → kind_of e ≡ OutOfMemory)
       → IfErr r (λ e. takes command words ≡ true → kind_of e ≡ OutOfMemory)
-  matched_passes is h = subst (λ a. IfErr r (λ e. takes a words ≡ true → kind_of e ≡ OutOfMemory)) is h
+  matched_memory is h = subst (λ a. IfErr r (λ e. takes a words ≡ true → kind_of e ≡ OutOfMemory)) is h
 
   -- clap fails with a kind of error that the command's definition allows for these words
   pub matched_kinds : given ≡ command → is_simple_and_free command ≡ true → (is_simple_and_free given ≡ true → FailsBy (fault_of given words) r)

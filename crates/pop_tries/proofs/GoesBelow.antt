@@ -6,25 +6,27 @@ use Rattle.chess_core.specs.Undo.{Undo}
 use Rattle.chess_rules.specs.ties.Games.{RestoresPosition, WasPlayed}
 use Rattle.pop_battle.specs.ties.Frames.{CameBy, Frame}
 use Rattle.pop_events.specs.Shown.{Shown, shown_move}
+use Rattle.pop_stipulation.specs.declared.stipulation.TheConstants.{MOST_FRAMES}
 use Rattle.pop_walk.proofs.Events.{room-length}
 use Rattle.pop_walk.proofs.Sound.{in_range}
 use Rattle.pop_walk.specs.Events.{last_shown}
-use Rattle.pop_walk.specs.ties.Walk.{IsRoomy}
+use Rattle.pop_walk.proofs.Paths.{path-length}
+use Rattle.pop_walk.specs.declared.plan.Plan.{Plan}
+use Rattle.pop_walk.specs.ties.Plans.{plan_of}
+use Rattle.pop_walk.specs.ties.Walk.{IsRoomy, IsWalking, path}
 use Rattle.pop_tries.specs.Shown.{shown_below_first, try_event_of}
 use Rattle.pop_tries.specs.declared.desk.Desk.{Desk}
 use Rattle.pop_tries.specs.declared.contest.Contest.{Contest}
 use Rattle.pop_events.specs.declared.try_event.TryEvent.TheVariants.{Key, Node, Try}
 use Rattle.pop_tries.specs.declared.first_moves.Group.{Group}
 use Rattle.pop_tries.specs.declared.first_moves.Group.TheVariants.{Keys, Tries}
-use Rattle.pop_tries.specs.declared.below.Base.{Base}
-use Rattle.pop_tries.specs.declared.below.Base.TheVariants.{Passed, Reply}
 use Rattle.pop_tries.specs.declared.stage.First.{First}
 use Rattle.pop_tries.specs.declared.stage.Task.{Task}
 use Rattle.pop_tries.specs.declared.threats.Threat.{Threat}
 use Rattle.pop_tries.specs.ties.Contests.{AreThreats, Keeps, game_in}
 use Rattle.pop_tries.specs.ties.FirstMoves.{is_shown}
-use Rattle.pop_tries.specs.ties.Searching.{IsAnswered, IsBare, IsWalkedBelow, after_first, event_of_faced, event_of_first, first_event}
-use Rattle.pop_tries.specs.ties.Starts.{base_position, shown_line}
+use Rattle.pop_tries.specs.ties.Searching.{IsAnswered, IsBare, IsOnWalk, IsWalkedBelow, ShowsNode, after_first, event_of_faced, event_of_first, first_event}
+use Rattle.pop_tries.specs.ties.Starts.{Base, ShowsNext, base_position, by_passing, by_reply, shown_line}
 use Rattle.pop_tries.proofs.StepsBelow.{last_below}
 
 -- nothing is reversed only if there is nothing
@@ -33,7 +35,7 @@ none_reversed items e = nil_from_length items (omega (arith, length-reverse item
 
 -- the frames of a walk below a first move are few
 pub shallow : (problem : Posed) → IsSound problem → (h : ℕ) (items slice : List Frame) → h ≡ half_moves problem.stipulation - 2
-    → IsRoomy h (reverse items) → slice ≡ items → length slice ≤ 33
+    → IsRoomy h (reverse items) → slice ≡ items → length slice ≤ MOST_FRAMES
 shallow problem s h items slice e r same =
     omega (arith, e, in_range problem s, room-length h (reverse items) r, length-reverse items, ap length same)
 
@@ -41,6 +43,11 @@ shallow problem s h items slice e r same =
 pub still_bare : {A : Type 0} {n : ℕ} {q : Position} {old new : Desk A n} → Keeps old new → IsBare q old.frames.items old.board
     → IsBare q new.frames.items new.board
 still_bare keeps bare = record { board_at = keeps.board ∙ bare.board_at; none = keeps.frames ∙ bare.none }
+
+-- the walk below a first move goes on
+pub walked_on : {A : Type 0} (rule : RuleSet) (task : Task) (first : First A) (p before board : Position) (was items : List Frame)
+    → IsWalkedBelow rule task first p was before → IsOnWalk rule task p items board → IsWalkedBelow rule task first p items board
+walked_on rule task first p before board was items walked on = record { first_is = walked.first_is; threat = walked.threat; walking = on }
 
 -- after a walk below a first move, with the board back where that move led and no frame left, the replies follow
 pub replies_follow : {A : Type 0} (rule : RuleSet) (task : Task) (first : First A) (p before board : Position) (was items : List Frame)
@@ -74,11 +81,29 @@ module _ (goal : Goal) (rule : RuleSet) (problem : Posed) (first : Move) (line :
   pub node_shown : (base : Base) → 1 ≤ length line → depth ≡ length line + 1 → half ≡ length line + 2
       → shown ≡ last_shown goal rule (base_position rule problem first base) line
       → Node depth half shown ≡ shown_below_first goal rule (position_after rule (play_start problem) first) (shown_line base line)
-  node_shown Passed some e f g = rw (e, f, g) refl
-  node_shown (Reply by) some e f g =
-      let e2 : depth ≡ length (by ∷ line) = omega (arith, e) in
-      let f2 : half ≡ length (by ∷ line) + 1 = omega (arith, f) in
-      rw (e2, f2, g, last_below goal rule (position_after rule (play_start problem) first) by line some) refl
+  node_shown by_passing some e f g = rw (e, f, g) refl
+  node_shown (by_reply m) some e f g =
+      let e2 : depth ≡ length (m ∷ line) = omega (arith, e) in
+      let f2 : half ≡ length (m ∷ line) + 1 = omega (arith, f) in
+      rw (e2, f2, g, last_below goal rule (position_after rule (play_start problem) first) m line some) refl
+
+-- the walk below a first move, with its plan and its half-moves
+module _ (rule : RuleSet) (task : Task) (plan : Plan) (h : ℕ) (planned : plan ≡ plan_of task.problem) (left : h ≡ half_moves task.problem.stipulation - 2) where
+  pub on_walk : (p board : Position) (items : List Frame) → IsOnWalk rule task p items board → IsWalking rule h p (reverse items) board
+  on_walk p board items w = rw left w
+
+  -- it has gone on to a node, which is shown
+  pub node_goes : (first : Move) (base : Base) (old new slice : List Frame) (board after : Position) (given : Bool) (depth half : ℕ) (shown : Shown)
+      → given ≡ true → slice ≡ new → ShowsNext rule plan h (base_position rule task.problem first base) (reverse old) (reverse new) board given
+      → after ≡ board → depth ≡ length (path (reverse slice)) + 1 → half ≡ length (path (reverse slice)) + 2
+      → ((k : ℕ) (p : Position) → IsWalking rule k p (reverse slice) board → shown ≡ last_shown plan.goal rule p (path (reverse slice)))
+      → ShowsNode rule task first base old new after (Some (Node depth half shown))
+  node_goes first base old new slice board after given depth half shown r same s e d k g =
+      let line = path (reverse new) in
+      let some : 1 ≤ length line = omega (arith, s.deep r, path-length (reverse new)) in
+      let last = rw (planned, same) at (g h (base_position rule task.problem first base) (rw same s.walking)) in
+      let node = node_shown task.problem.stipulation.goal rule task.problem first line depth half shown base some (rw same at d) (rw same at k) last in
+      (rw e (rw left at s.walking), (line, rw (planned, left) at (s.next r), search node))
 
 -- a first move of a group, as it is shown
 pub first_shown : (rule : RuleSet) (problem : Posed) (group : Group) (m : Move) (shown : Shown)

@@ -11,58 +11,53 @@ use Rattle.pop_tries.specs.Shown.{try_event_of}
 use Rattle.pop_events.specs.declared.try_event.TryEvent.{TryEvent}
 use Rattle.pop_tries.specs.declared.stage.Course.{Course}
 use Rattle.pop_tries.specs.declared.stage.Task.{Task}
+use Rattle.pop_tries.specs.declared.stage.TheConstants.{MOST_REFUTATIONS}
 use Rattle.pop_tries.specs.declared.stage.TriesStage.{TriesStage}
 use Rattle.pop_tries.proofs.Candidates.{none_are_kept}
-use Rattle.pop_tries.specs.ties.Searching.{Emits, IsOnCourse, contest_of, course_by, first_course, is_over, left_on}
+use Rattle.pop_tries.specs.ties.Searching.{Emits, IsOnCourse, contest_of, course_by, first_course, is_over, left_on, task_of}
 unfoldable use Rattle.pop_tries.specs.ties.Searching.{HoldsAt, left_of}
 
 -- a battle has a move
 some_move : (form : Form) (battle : Battle) (n : ℕ) → battle_of form ≡ Some battle → may_have form n ≡ true → 1 ≤ n
 some_move form battle n e r = grind (arith, nat_tests)
 
-module _ {A : Type 0} (rule : RuleSet) (problem : Posed) (most : ℕ) (course : Course A) (whole : course ≡ first_course problem most) (items : List Frame)
+module _ {A : Type 0} (rule : RuleSet) (problem : Posed) (most : ℕ) (course : Course A) (whole : course ≡ first_course problem) (items : List Frame)
     (none : items ≡ []) where
   -- at first all events are to come
-  pub all_to_come : left_on rule course items ≡ try_events rule problem most
+  pub all_to_come : left_on rule problem most course items ≡ try_events rule problem most
   unfolding left_of try_events
   all_to_come = rw (whole, none) (by (battle_of problem.stipulation.form) problem.set_play refl)
     where
       by : (p : Option Battle) (set_play : Bool) → problem.set_play ≡ set_play
-          → left_on rule (course_by {A = A} p set_play problem most) [] ≡ events_by p rule problem most
+          → left_on rule problem most (course_by {A = A} p set_play) [] ≡ events_by p rule problem most
       by None set_play e = refl
       by (Some b) true e = rw e refl
       by (Some b) false e = rw e refl
 
   -- at first the board has the play's first position, and no frame is in use
-  pub on_course : IsSound problem → most ≤ 200 → (room : ℕ) → half_moves problem.stipulation < room → (board : Position) → board ≡ play_start problem
-      → IsOnCourse rule problem course items board room
+  pub on_course : IsSound problem → most ≤ MOST_REFUTATIONS → (room : ℕ) → half_moves problem.stipulation < room → (board : Position) → board ≡ play_start problem
+      → IsOnCourse rule problem most course items board room
   unfolding HoldsAt
   on_course s few room fits board at = rw (whole, none, at) (by (battle_of problem.stipulation.form) problem.set_play refl)
     where
       by : (p : Option Battle) (set_play : Bool) → battle_of problem.stipulation.form ≡ p
-          → IsOnCourse rule problem (course_by {A = A} p set_play problem most) [] (play_start problem) room
+          → IsOnCourse rule problem most (course_by {A = A} p set_play) [] (play_start problem) room
       by None set_play e = tt
-      by (Some b) true e = (
-        refl,
-        record {
-          is_task = record { sound = s; few = few };
-          room = fits;
-          holds = (record { fought = e; some = some_move _ _ _ e s.range }, record { board_at = refl; none = refl });
-        },
-      )
-      by (Some b) false e = (
-        refl,
-        record {
-          is_task = record { sound = s; few = few };
-          room = fits;
-          holds = (
-            record { fought = e; some = some_move _ _ _ e s.range },
-            record { board_at = refl; none = refl },
-            tt,
-            (λ m c t. inl refl, none_are_kept rule (contest_of (record { problem = problem; battle = b; most = most })) most (play_start problem)),
-          );
-        },
-      )
+      by (Some b) true e = record {
+        is_task = record { sound = s; few = few };
+        room = fits;
+        holds = (record { fought = e; some = some_move _ _ _ e s.range }, record { board_at = refl; none = refl });
+      }
+      by (Some b) false e = record {
+        is_task = record { sound = s; few = few };
+        room = fits;
+        holds = (
+          record { fought = e; some = some_move _ _ _ e s.range },
+          record { board_at = refl; none = refl },
+          tt,
+          (λ m c t. inl refl, none_are_kept rule (contest_of (task_of problem most b)) most (play_start problem)),
+        );
+      }
 
 module _ (rule : RuleSet) (problem : Posed) where
   -- the event returned, and the events then still to come

@@ -7,7 +7,7 @@ use Rattle.pop_battle.proofs.Words.{append_assoc}
 use Rattle.pop_walk.specs.Events.{BareEvent, impossible, is_impossible_phase, opening, phase_count, phase_start, solutions}
 use Rattle.pop_walk.specs.declared.phases.Scope.TheVariants.{Part}
 use Rattle.pop_walk.specs.declared.phases.Stage.{Stage}
-use Rattle.pop_walk.specs.declared.phases.Stage.TheVariants.{After, NotPossible, Before, First, Within as WithinPhase}
+use Rattle.pop_walk.specs.declared.phases.Stage.TheVariants.{After, NotPossible as NotPossiblePhase, Before, First, Within as WithinPhase}
 use Rattle.pop_walk.specs.ties.Phases.{beginning_count, kept_paths, phase_paths}
 unfoldable use Rattle.pop_walk.specs.ties.Phases.{HoldsAtStage, left_of as set_play_left}
 use Rattle.pop_walk.specs.ties.Plans.{walk_of}
@@ -26,7 +26,7 @@ use Rattle.pop_stipulation.specs.Stipulations.{is_help}
 use Rattle.pop_tries.specs.declared.stage.Task.{Task}
 use Rattle.pop_tries.specs.declared.first_moves.Group.TheVariants.{Keys}
 use Rattle.pop_tries.specs.ties.Candidates.{candidates_of}
-use Rattle.pop_tries.specs.declared.stage.TriesStage.TheVariants.{Beginning, Impossible, SetPlay, Within}
+use Rattle.pop_tries.specs.declared.stage.TriesStage.TheVariants.{Beginning, NotPossible, SetPlay, Within}
 unfoldable use Rattle.pop_tries.specs.ties.Searching.{left_of}
 use Rattle.std.specs.Prelude.{reverse}
 use Rattle.std.proofs.lemmas.List.{length-reverse, nil_from_length}
@@ -54,7 +54,7 @@ pub none_after : (rule : RuleSet) (problem : Posed) (stage : Stage) (frames : Li
     → HoldsAtStage rule problem stage frames board → set_play_left rule problem stage frames ≡ [] → frames ≡ []
 unfolding HoldsAtStage set_play_left
 none_after rule problem (Before phase) frames board h e = h.0
-none_after rule problem NotPossible frames board h e = h.0
+none_after rule problem NotPossiblePhase frames board h e = h.0
 none_after rule problem (First walk) frames board h e = some_left _ _ _ e
 none_after rule problem (WithinPhase walk count) frames board h e = some_left _ _ _ e
 none_after rule problem After frames board h e = h.0
@@ -90,7 +90,7 @@ module _ (A : Type 0) (rule : RuleSet) (task : Task) where
 
   -- the events where set play isn't possible
   pub left_barred : (was items : List Frame) → is_impossible_phase rule task.problem Set ≡ true
-      → left_of rule task {A = A} SetPlay was ≡ set_event (opening Set) ∷ left_of rule task {A = A} Impossible items
+      → left_of rule task {A = A} SetPlay was ≡ set_event (opening Set) ∷ left_of rule task {A = A} NotPossible items
   unfolding left_of
   left_barred was items i = rw (set_barred rule task.problem i) refl
 

@@ -30,7 +30,7 @@ module _ (rule : RuleSet) (plan : Plan) (h : ℕ) (p : Position) (old mid : List
   -- a step that shows a node
   pub node_shown : (new : List Frame) (board : Position) (given : Bool) → Steps rule plan h p mid new board given
       → given ≡ true → 0 < length mid → ShowsNext rule plan h p old new board true
-  node_shown new board given s e some = grind (arith, s.come, s.deep, s.ended, same)
+  node_shown new board given s e some = grind (arith, s.walking, s.come, s.deep, s.ended, same)
 
   -- with no frame left nothing is to come
   pub none_left : (board : Position) → IsWalking rule h p mid board → length mid ≡ 0 → ShowsNext rule plan h p old mid board false

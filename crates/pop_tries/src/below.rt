@@ -1,40 +1,20 @@
 //! Walks over what is shown below the replies to a first move, and below its threats.
-ghost use Rattle.std.specs.Prelude.{◌≡◌, ◌<◌, ◌≤◌, ◌+◌, [], length, reverse};
+ghost use Rattle.std.specs.Prelude.{◌≡◌, ℕ, ◌<◌, ◌≤◌, ◌+◌, [], length, reverse};
+ghost use Rattle.chess_core.specs.Position.{Position};
 ghost use Rattle.chess_core.specs.WellFormed.{IsWellFormed};
 ghost use Rattle.pop_walk.specs.Events.{last_shown};
 ghost use Rattle.pop_walk.specs.ties.Walk.{IsEnded, IsWalking, path};
-ghost use Rattle.pop_tries.specs.ties.Starts.{base_position, ShowsBelow, ShowsNext};
+ghost use Rattle.pop_tries.specs.ties.Starts.{ShowsBelow, ShowsNext};
 
 use crate::desk::Desk;
 use chess_core::board::Board;
-use chess_core::man::Move;
 use chess_rules::{Moves, Rules};
 use pop_battle::frame::Frame;
 use pop_events::Shown;
-use pop_input::{MOST_FRAMES, Problem};
+use pop_input::MOST_FRAMES;
 use pop_walk::plan::Plan;
 use pop_walk::showing::last_shown;
 use pop_walk::walk::{step, walk_length};
-
-/// Where a walk below a first move starts.
-#[derive(Clone, Copy)]
-pub enum Base {
-    /// After Black has passed: the walk shows the threats.
-    Passed,
-    /// After a reply.
-    Reply { by: Move },
-}
-
-/// A walk below a first move.
-#[derive(Clone, Copy)]
-pub struct WalkBelow {
-    pub plan: Plan,
-    /// The number of half-moves left where the walk starts.
-    pub half_moves: usize,
-    /// The first move. With `base` it says in contracts where the walk starts; the code doesn't read them.
-    pub first: Move,
-    pub base: Base,
-}
 
 /// Opens the walk over what is shown below the board's position, which White, to move, wins with
 /// `half_moves` half-moves left: below a reply, or where Black has passed. No frame is in use before.
@@ -63,27 +43,24 @@ pub fn open_walk<R: Rules, const N: usize>(plan: Plan, half_moves: usize, desk: 
 }
 
 /// Walks to the next node below a reply or below the threats. Returns whether there is one; if not, no frame
-/// is left, and the board has the position where the walk started. Only the contract reads `problem`.
+/// is left, and the board has the position where the walk started.
 pub fn walk_on<R: Rules, const N: usize>(
-    problem: &Problem,
-    walk: WalkBelow,
+    plan: Plan,
+    half_moves: usize,
     desk: &mut Desk<R, N>,
 ) -> bool
-    requires room { walk.half_moves < N }
-    requires walking { IsWalking R.rule walk.half_moves
-        (base_position R.rule problem.now walk.first walk.base)
+    requires room { half_moves < N }
+    requires walking { (p : Position) × IsWalking R.rule half_moves p
         (reverse desk.old.frames.items) desk.old.board }
-    ensures walking { IsWalking R.rule walk.half_moves
-        (base_position R.rule problem.now walk.first walk.base)
-        (reverse desk.new.frames.items) desk.new.board }
-    ensures next { ShowsNext R.rule walk.plan walk.half_moves
-        (base_position R.rule problem.now walk.first walk.base)
-        (reverse desk.old.frames.items) (reverse desk.new.frames.items) desk.new.board result }
+    ensures next { (p : Position) → IsWalking R.rule half_moves p (reverse desk.old.frames.items)
+        desk.old.board
+        → ShowsNext R.rule plan half_moves p (reverse desk.old.frames.items)
+        (reverse desk.new.frames.items) desk.new.board result }
 {
     while !desk.frames.is_empty() {
         if step::<R, N, true>(
-            walk.plan,
-            walk.half_moves,
+            plan,
+            half_moves,
             &mut desk.board,
             &mut desk.frames,
             &mut desk.search_state,
@@ -106,28 +83,23 @@ pub struct ShownNode {
 }
 
 /// Returns the node at the top frame, whose position the board has. Where Black has passed, the missing reply
-/// counts as a move. Only the contract reads `problem`.
-pub fn shown_node<R: Rules>(
-    problem: &Problem,
-    walk: WalkBelow,
-    frames: &[Frame<R>],
-    board: &mut Board,
-) -> ShownNode
+/// counts as a move.
+pub fn shown_node<R: Rules>(plan: Plan, frames: &[Frame<R>], board: &mut Board) -> ShownNode
     requires deep { 2 ≤ length frames.now }
     requires shallow { length frames.now ≤ MOST_FRAMES }
-    requires walking { IsWalking R.rule walk.half_moves
-        (base_position R.rule problem.now walk.first walk.base) (reverse frames.now) board.old }
-    requires ended { IsEnded R.rule walk.plan (reverse frames.now) board.old }
+    requires walking { (h : ℕ) × (p : Position)
+        × IsWalking R.rule h p (reverse frames.now) board.old }
+    requires ended { IsEnded R.rule plan (reverse frames.now) board.old }
     ensures unchanged { board.new ≡ board.old }
     ensures depth { result.depth ≡ length (path (reverse frames.now)) + 1 }
     ensures half { result.half ≡ length (path (reverse frames.now)) + 2 }
-    ensures shown { result.shown ≡ last_shown walk.plan.goal R.rule
-        (base_position R.rule problem.now walk.first walk.base) (path (reverse frames.now)) }
+    ensures shown { (h : ℕ) (p : Position) → IsWalking R.rule h p (reverse frames.now) board.old
+        → result.shown ≡ last_shown plan.goal R.rule p (path (reverse frames.now)) }
 {
     let depth = frames.len() as u32;
     ShownNode {
         depth,
         half: depth + 1,
-        shown: last_shown::<R>(walk.plan, frames, board),
+        shown: last_shown::<R>(plan, frames, board),
     }
 }

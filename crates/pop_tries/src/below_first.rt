@@ -7,7 +7,7 @@ ghost use Rattle.pop_events.specs.Shown.{shown_move};
 ghost use Rattle.pop_input.specs.Posed.{IsSound};
 ghost use Rattle.pop_walk.specs.ties.Plans.{plan_of};
 ghost use Rattle.pop_walk.specs.ties.Walk.{IsWalking};
-ghost use Rattle.pop_tries.specs.ties.Starts.{base_position, ShowsBelow};
+ghost use Rattle.pop_tries.specs.ties.Starts.{base_position, Base, ShowsBelow};
 ghost use Rattle.chess_core.specs.Position.{Position};
 ghost use Rattle.pop_battle.specs.Game.{can_move};
 ghost use Rattle.pop_battle.specs.ties.Frames.{CameBy};
@@ -16,9 +16,9 @@ ghost use Rattle.pop_stipulation.specs.Stipulations.{half_moves};
 ghost use Rattle.pop_events.specs.declared.try_event.TryEvent.TheVariants.{Node};
 ghost use Rattle.pop_tries.specs.declared.stage.TriesStage.TheVariants.{BelowReply, But, Faced, FirstMove, Refutation, Reply, Stalemate, Threats};
 ghost use Rattle.pop_tries.specs.ties.Contests.{AreThreats, IsContest};
-ghost use Rattle.pop_tries.specs.ties.Searching.{after_first, below_and_after, contest_of, event_of_faced, left_of, Goes, HoldsAt, IsFirst, IsWalkedBelow, MayStep, rank, ShowsNode};
+ghost use Rattle.pop_tries.specs.ties.Searching.{after_first, below_and_after, contest_of, event_of_faced, left_of, Goes, HoldsAt, IsFirst, IsOnWalk, MayStep, rank, ShowsNode};
 
-use crate::below::{Base, open_walk, shown_node, walk_on};
+use crate::below::{open_walk, shown_node, walk_on};
 use crate::desk::Desk;
 use crate::first_moves::{Group, next_refutation, next_reply};
 use crate::shown::shown;
@@ -128,31 +128,22 @@ fn begin_threats<R: Rules, const N: usize>(
 /// Walks to the next node below a first move, and returns its event. After the last node returns `None`: then
 /// no frame is left, and the board has the position where the walk started.
 #[inline(always)]
-fn next_node<R: Rules, const N: usize>(
-    task: &Task,
-    first: &First<R>,
-    base: Base,
-    desk: &mut Desk<R, N>,
-) -> Option<TryEvent>
+fn next_node<R: Rules, const N: usize>(task: &Task, desk: &mut Desk<R, N>) -> Option<TryEvent>
     requires sound { IsSound task.now.problem }
     requires room { half_moves task.now.problem.stipulation < N }
-    requires walked { IsWalkedBelow R.rule task.now first.now (base_position R.rule task.now.problem
-        first.now.by base) desk.old.frames.items desk.old.board }
-    ensures walked { IsWalkedBelow R.rule task.now first.now (base_position R.rule task.now.problem
-        first.now.by base) desk.new.frames.items desk.new.board }
-    ensures next { ShowsNode R.rule task.now first.now.by base desk.old.frames.items
-        desk.new.frames.items desk.new.board result }
+    requires walking { (p : Position) × IsOnWalk R.rule task.now p desk.old.frames.items
+        desk.old.board }
+    ensures next { (first : Move) (base : Base)
+        → IsOnWalk R.rule task.now (base_position R.rule task.now.problem first base)
+        desk.old.frames.items desk.old.board
+        → ShowsNode R.rule task.now first base desk.old.frames.items desk.new.frames.items
+        desk.new.board result }
 {
-    let walk = &task.walk_below(first.by, base);
-    if !walk_on::<R, N>(&task.problem, *walk, desk) {
+    let plan = Plan::of(&task.problem);
+    if !walk_on::<R, N>(plan, task.half_moves_below(), desk) {
         return None;
     }
-    let node = shown_node::<R>(
-        &task.problem,
-        *walk,
-        desk.frames.as_slice(),
-        &mut desk.board,
-    );
+    let node = shown_node::<R>(plan, desk.frames.as_slice(), &mut desk.board);
     Some(TryEvent::Node {
         depth: node.depth,
         half: node.half,
@@ -172,7 +163,7 @@ pub(crate) fn walk_threats<R: Rules, const N: usize>(
     ensures { Goes R.rule task.now (Threats first crossed) desk.old result.stage desk.new
         result.event }
 {
-    let next = next_node::<R, N>(task, &first, Base::Passed, desk);
+    let next = next_node::<R, N>(task, desk);
     if let Some(event) = next {
         return Step {
             stage: TriesStage::Threats { first, crossed },
@@ -264,8 +255,7 @@ pub(crate) fn walk_reply<R: Rules, const N: usize>(
     ensures { Goes R.rule task.now (BelowReply first reply) desk.old result.stage desk.new
         result.event }
 {
-    let base = Base::Reply { by: reply.by };
-    let next = next_node::<R, N>(task, &first, base, desk);
+    let next = next_node::<R, N>(task, desk);
     if let Some(event) = next {
         return Step {
             stage: TriesStage::BelowReply { first, reply },

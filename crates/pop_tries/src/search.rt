@@ -37,11 +37,11 @@ impl<R: Rules, const N: usize> Model for TriesSearch<R, N> {
     ghost view = { λ s. record {
       problem = s.problem;
       most = s.most;
-      left = left_on R.rule s.course s.desk.frames.items;
+      left = left_on R.rule s.problem s.most s.course s.desk.frames.items;
     } };
 
-    ghost invariant = { λ s. IsOnCourse R.rule s.problem s.course s.desk.frames.items s.desk.board
-        N };
+    ghost invariant = { λ s. IsOnCourse R.rule s.problem s.most s.course s.desk.frames.items
+        s.desk.board N };
 }
 
 impl<R: Rules, const N: usize> TriesSearch<R, N> {
@@ -63,7 +63,7 @@ impl<R: Rules, const N: usize> TriesSearch<R, N> {
         TriesSearch {
             problem: *problem,
             most,
-            course: first_course::<R>(problem, most),
+            course: first_course::<R>(problem),
             desk: Desk::with(Board::of(&problem.diagram())),
         }
     }
@@ -81,15 +81,22 @@ impl<R: Rules, const N: usize> TriesSearch<R, N> {
                 self.course = Course::Ended;
                 Some(TryEvent::NoTries)
             }
-            Course::InBattle { task, stage } => { next_event::<R, N>(task, stage, &mut self.desk) }
+            Course::InBattle { battle, stage } => {
+                let task = Task {
+                    problem: self.problem,
+                    battle: *battle,
+                    most: self.most,
+                };
+                next_event::<R, N>(&task, stage, &mut self.desk)
+            }
             Course::Ended => None,
         }
     }
 }
 
-/// Returns the whole course of a problem, with tries of at most `most` refutations.
-fn first_course<R: Rules>(problem: &Problem, most: u32) -> Course<R>
-    ensures { result ≡ first_course problem.now most }
+/// Returns the whole course of a problem.
+fn first_course<R: Rules>(problem: &Problem) -> Course<R>
+    ensures { result ≡ first_course problem.now }
 {
     let Some(battle) = problem.stipulation().form.battle() else {
         return Course::NoTries;
@@ -99,12 +106,7 @@ fn first_course<R: Rules>(problem: &Problem, most: u32) -> Course<R>
     } else {
         beginning_of_keys()
     };
-    let task = Task {
-        problem: *problem,
-        battle,
-        most,
-    };
-    Course::InBattle { task, stage }
+    Course::InBattle { battle, stage }
 }
 
 /// Returns whether nothing is left to return.
@@ -127,7 +129,7 @@ fn take_step<R: Rules, const N: usize>(
 {
     match stage {
         TriesStage::SetPlay => begin_set_play(task, desk),
-        TriesStage::Impossible => Step {
+        TriesStage::NotPossible => Step {
             stage: beginning_of_keys(),
             event: Some(TryEvent::Set(Event::Impossible)),
         },

@@ -25,7 +25,7 @@ pub(crate) fn begin_set_play<R: Rules, const N: usize>(
     let event = Some(TryEvent::Set(Event::Phase(phase)));
     if !set_up::<R>(&task.problem, phase, &mut desk.board) {
         return Step {
-            stage: TriesStage::Impossible,
+            stage: TriesStage::NotPossible,
             event,
         };
     }

@@ -2,9 +2,8 @@
 ghost use Rattle.std.specs.Prelude.{◌≡◌, ◌+◌, ◌-◌, ◌≤◌};
 ghost use Rattle.chess_rules.specs.ties.Places.{all_triples};
 ghost use Rattle.pop_stipulation.specs.Stipulations.{half_moves};
-ghost use Rattle.pop_tries.specs.ties.Searching.{contest_of, walk_below};
+ghost use Rattle.pop_tries.specs.ties.Searching.{contest_of};
 
-use crate::below::{Base, WalkBelow};
 use crate::contest::Contest;
 use crate::first_moves::Group;
 use crate::kept_tries::Candidates;
@@ -17,7 +16,6 @@ use pop_events::TryEvent;
 use pop_input::problem::Problem;
 use pop_stipulation::Battle;
 use pop_walk::phases::Stage;
-use pop_walk::plan::Plan;
 
 /// The greatest number of refutations of a try that can be asked for (own).
 pub const MOST_REFUTATIONS: u32 = 200;
@@ -48,18 +46,6 @@ impl Task {
         ensures { result ≡ half_moves self.now.problem.stipulation - 2 }
     {
         self.problem.stipulation().half_moves().saturating_sub(2)
-    }
-
-    /// Returns the walk below a first move from `base`.
-    pub fn walk_below(&self, first: Move, base: Base) -> WalkBelow
-        ensures { result ≡ walk_below self.now first base }
-    {
-        WalkBelow {
-            plan: Plan::of(&self.problem),
-            half_moves: self.half_moves_below(),
-            first,
-            base,
-        }
     }
 }
 
@@ -117,7 +103,10 @@ pub enum Course<R: Rules> {
     /// The only event of help play.
     NoTries,
     /// The events of a battle from a stage on.
-    InBattle { task: Task, stage: TriesStage<R> },
+    InBattle {
+        battle: Battle,
+        stage: TriesStage<R>,
+    },
     /// Nothing more of help play.
     Ended,
 }
@@ -128,7 +117,7 @@ pub enum TriesStage<R: Rules> {
     /// The beginning of set play.
     SetPlay,
     /// That set play isn't possible.
-    Impossible,
+    NotPossible,
     /// The other events of set play.
     Within {
         stage: Stage,

@@ -1,5 +1,6 @@
 -- What a call of `next` returns.
 use Rattle.pop_walk.proofs.Words.{After, Before, Frame, Stage, Total, goes_on, is_none, sym, IsRoomy, IsSound, List, Phase, Play, Posed, Position, RuleSet, Walks, Within, [], append_assoc, arith, cond, drop, eqb, events_from, false, flat_map, half_moves, is_impossible_phase, BareEvent, Event, First, Gives, IsAtPathOf, IsWalking, Move, Whole, begins_solution, event_of, events_after, events_along, path, path_event, phase_count, Walk, walk_of, Bool, ap, ◌<◌, ◌∙◌, beginning_count, is_help, kept_paths, left_of, length, length-reverse, nat_tests, opening, phase_events, phase_half_moves, phase_paths, phase_start, plan_of, refl, reverse, rules, solutions, take, total, true, ℕ, ◌+◌, ◌-◌, ◌||◌, ◌∷◌, ◌≡◌, ◌≤◌, drop-drop}
+use Rattle.pop_stipulation.specs.declared.stipulation.TheConstants.{MOST_FRAMES}
 use Rattle.pop_walk.proofs.Sound.{in_range}
 use Rattle.pop_walk.proofs.Kept.{beginning_count-next, keep-next}
 use Rattle.pop_walk.proofs.Paths.{path-length, path_end-path}
@@ -73,7 +74,7 @@ module _ (rule : RuleSet) (problem : Posed) (walk : Walk) (count : ℕ) (old : L
   room-given = grind (arith, path-length, length-reverse, deep-given, nat_tests)
 
   -- the path fits a line's room
-  pub shallow-given : IsSound problem → length frames ≤ 33
+  pub shallow-given : IsSound problem → length frames ≤ MOST_FRAMES
   shallow-given s = search (rules, room-length, length-reverse, in_range)
 
 -- a phase begins
@@ -143,7 +144,7 @@ module _ (rule : RuleSet) (problem : Posed) (walk : Walk) (frames : List Frame) 
   found-gives count old w next n event e stand stays = rw stays (gives-next count _ _ _ (w.come refl) (w.starts refl) next n event e)
 
   -- the path of a beginning fits a line's room
-  pub first-shallow : IsSound problem → length frames ≤ 33
+  pub first-shallow : IsSound problem → length frames ≤ MOST_FRAMES
   first-shallow s = search (rules, room-length, length-reverse, in_range)
 
 -- one solution is within the limit

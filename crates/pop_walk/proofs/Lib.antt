@@ -6,6 +6,7 @@ pub mod GoingOn
 pub mod OutOfReach
 pub mod KingEnds
 pub mod ToCome
+pub mod StepsLeft
 pub mod Counting
 pub mod TopFrame
 pub mod Outcomes

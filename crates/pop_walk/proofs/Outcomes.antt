@@ -1,10 +1,11 @@
 -- The outcomes of a step, with frames listed from the top down.
-use Rattle.pop_walk.proofs.Words.{AreKnown, Bool, CameFrom, CameFromAt, Frame, GoesTo, IfSome, IsLinked, IsPlaceIn, IsRoomy, IsWalking, LegalPlace, List, Move, None, Option, Plan, Position, RuleSet, Steps, [], after_well_formed, ap, arith, chess, eqb, false, shown_paths, is_followed, is_emitted, walk_length, inl, inr, is_legal, may_be_made, length, moves_after, opened_frame, path, position, refl, rules, suc, to_come, to_open, true, walk_work, undo_of, ℕ, ◌-◌, ◌<◌, ◌∷◌, ◌≡◌, ◌⊎◌, position_after}
+use Rattle.pop_walk.proofs.Words.{AreKnown, Bool, CameFrom, CameFromAt, Frame, GoesTo, IfSome, IsLinked, IsPlaceIn, IsRoomy, IsWalking, LegalPlace, List, Move, None, Option, Plan, Position, RuleSet, Steps, [], after_well_formed, ap, arith, chess, eqb, false, shown_paths, is_followed, is_emitted, walk_length, inl, inr, is_legal, may_be_made, length, moves_after, opened_frame, path, position, refl, rules, suc, to_come, to_open, true, walk_work, undo_of, ℕ, ◌-◌, ◌<◌, ◌∷◌, ◌≡◌, ◌≤◌, ◌⊎◌, position_after}
 use Rattle.pop_battle.specs.ties.Frames.{learned, moved}
 use Rattle.pop_battle.proofs.Tests.{came_from}
 use Rattle.pop_walk.proofs.GoingOn.{ended-reached, walk_length-most, ways}
 use Rattle.pop_walk.proofs.Counting.{counts-if, counts_then-both}
-use Rattle.pop_walk.proofs.TopFrame.{come-enter, come-leave, come-unfollowed, counts-close, counts-enter, counts-leave, counts-unfollowed, counts-skip, turns-enter, turns-unfollowed, walk-skip}
+use Rattle.pop_walk.proofs.StepsLeft.{onward, turns-enter, turns-unfollowed}
+use Rattle.pop_walk.proofs.TopFrame.{come-enter, come-leave, come-unfollowed, counts-close, counts-enter, counts-leave, counts-unfollowed, counts-skip, walk-skip}
 unfoldable use Rattle.pop_walk.specs.ties.Walk.{AreEnds}
 use Rattle.pop_walk.specs.ties.Walk.{ending}
 use Rattle.chess_reach.specs.Lines.{HoldsEnds}
@@ -67,7 +68,7 @@ module _ (full : Bool) (rule : RuleSet) (plan : Plan) (h : ℕ) (p : Position) (
     steps-unfollowed after opened opened2 b at x =
         let walking = walking-moved rule h p f next below board after r at in
         let come = come-unfollowed rule plan h p f below next m _ t fuel left here in
-        let falls = turns-unfollowed rule plan h p f below next m _ t fuel left here in (
+        let falls = turns-unfollowed rule h board f below next m _ fuel e in (
           search (rules, walking, come, falls, after_here),
           counts-if full _ _ _ _
               (counts-unfollowed rule plan h p f below next m _ t fuel left here opened opened2 (rw after_here at b) (rw after_here at x)),
@@ -80,7 +81,7 @@ module _ (full : Bool) (rule : RuleSet) (plan : Plan) (h : ℕ) (p : Position) (
     steps-leave after opened part help none at =
         let walking = walking-moved rule h p f next below board after r at in
         let come = come-leave rule plan h p f below next m _ t fuel left here help (rw after_here at none) in
-        let falls = turns-unfollowed rule plan h p f below next m _ t fuel left here in (
+        let falls = turns-unfollowed rule h board f below next m _ fuel e in (
           search (rules, walking, come, falls),
           rw part (counts-leave rule plan h p f below next m _ t fuel left here opened help),
         )
@@ -104,7 +105,7 @@ module _ (full : Bool) (rule : RuleSet) (plan : Plan) (h : ℕ) (p : Position) (
             deep = λ g. omega arith;
             ended = λ g e. rw at
                 (ended-reached (chess plan.goal rule) plan.battle plan.variation (eqb (length below) 0) t (position_after rule board m) b g e);
-            falls = turns-enter rule plan h p f below next m _ t fuel left here u tried;
+            falls = turns-enter rule h board f below next m _ fuel e u tried;
           },
           rw after_here (counts-if full _ _ _ _
               (counts-enter rule plan h p f below next m _ t fuel left here u opened opened2 (rw after_here at b) (rw after_here at x))),
@@ -112,11 +113,12 @@ module _ (full : Bool) (rule : RuleSet) (plan : Plan) (h : ℕ) (p : Position) (
 
 -- what follows moves that are skipped follows from before them
 pub steps-skip : (full : Bool) (rule : RuleSet) (plan : Plan) (h : ℕ) (p : Position) (f : Frame) (below : List Frame) (rest : List Move) (before between : ℕ)
-    (g : GoesTo rule plan f.left (position rule p (f ∷ below)) f.place rest before between) (new : List Frame) (board : Position) (after : ℕ) (given : Bool)
+    (g : GoesTo rule plan f.left (position rule p (f ∷ below)) f.place rest before between) → f.place ≤ g.mid
+    → (new : List Frame) (board : Position) (after : ℕ) (given : Bool)
     → Taken full rule plan h p (moved f g.mid ∷ below) new board between after given → Taken full rule plan h p (f ∷ below) new board before after given
-steps-skip full rule plan h p f below rest before between g new board after given s =
+steps-skip full rule plan h p f below rest before between g le new board after given s =
     let counts = counts-skip rule plan h p f below rest before between g in
-    (walk-skip rule plan h p f below rest before between g new board given s.0, counts_then-both full _ _ _ _ _ _ (counts-if full _ _ _ _ counts) s.1)
+    (walk-skip rule plan h p f below rest before between g le new board given s.0, counts_then-both full _ _ _ _ _ _ (counts-if full _ _ _ _ counts) s.1)
 
 -- a frame is closed once moves that have no paths have been skipped
 pub skips-close : (full : Bool) (rule : RuleSet) (plan : Plan) (h : ℕ) (p : Position) (f : Frame) (below : List Frame) (board : Position)
@@ -125,9 +127,11 @@ pub skips-close : (full : Bool) (rule : RuleSet) (plan : Plan) (h : ℕ) (p : Po
     → ((q : Position) → 0 < length below → CameFromAt rule f board q → after ≡ q) → Taken full rule plan h p (f ∷ below) below after before count false
 skips-close full rule plan h p f below board r after before count (inl e) lowest back =
     rw e.1 (steps-close full rule plan h p f below board r after before (inl e.0) lowest back)
-skips-close full rule plan h p f below board r after before count (inr g) lowest back = steps-skip full rule plan h p f below [] before count g below after count false
-    (steps-close full rule plan h p (moved f g.mid) below board (walking-moved rule h p f g.mid below board board r refl) after count
-    (inr (rw r.board_at g.here)) lowest back)
+skips-close full rule plan h p f below board r after before count (inr g) lowest back =
+    let o = onward rule (position rule p (f ∷ below)) f.place [] _ g in
+    steps-skip full rule plan h p f below [] before count o.0 o.1 below after count false
+    (steps-close full rule plan h p (moved f o.0.mid) below board (walking-moved rule h p f o.0.mid below board board r refl) after count
+    (inr (rw r.board_at o.0.here)) lowest back)
 
 -- what the top frame knows changes nothing of what is to come
 pub steps-learned : (full : Bool) (rule : RuleSet) (plan : Plan) (h : ℕ) (p : Position) (f : Frame) (known : Option LegalPlace) (below new : List Frame)

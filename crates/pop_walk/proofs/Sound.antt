@@ -1,12 +1,13 @@
 -- What a sound problem guarantees, and which forms have a battle.
+use Rattle.pop_stipulation.specs.declared.stipulation.TheConstants.{MOST_HALF_MOVES}
 use Rattle.pop_walk.proofs.Words.{Battle, Form, None, Some, arith, battle_of, false, is_help, rules, IsSound, IsWellFormed, Phase, Posed, half_moves, is_en_passant_square_right, phase_start, true, ◌≡◌, ◌≤◌}
 
--- a problem has 1 to 32 half-moves
+-- a problem has a half-move
 pub some_way : (problem : Posed) → IsSound problem → 1 ≤ half_moves problem.stipulation
 some_way problem s = grind arith
 
--- a problem has at most 32 half-moves
-pub in_range : (problem : Posed) → IsSound problem → half_moves problem.stipulation ≤ 32
+-- a problem has no more half-moves than the longest
+pub in_range : (problem : Posed) → IsSound problem → half_moves problem.stipulation ≤ MOST_HALF_MOVES
 in_range problem s = grind arith
 
 -- the first position of each phase is well formed

@@ -1,5 +1,5 @@
--- What the moves still to come in a position mean for paths and steps.
-use Rattle.pop_walk.proofs.Words.{Bool, List, Mate, Move, None, Plan, Position, RuleSet, [], append_assoc, append-nil, allows_mate, chess, cond, false, filter, is_followed, is_emitted, is_mating, map, map-append, mates_after, moves_after, refl, rules, seeks_last, shown_paths, work_from, work_after, suc, sum_by-cons, true, value, ℕ, ◌++◌, ◌+◌, ◌∙◌, ◌∷◌, ◌≡◌, position_after, legal_moves, mates_after-are}
+-- What the moves still to come in a position mean for paths.
+use Rattle.pop_walk.proofs.Words.{Bool, List, Mate, Move, None, Plan, Position, RuleSet, [], append_assoc, append-nil, allows_mate, chess, cond, false, filter, is_followed, is_emitted, is_mating, map, map-append, mates_after, refl, rules, seeks_last, shown_paths, suc, true, value, ℕ, ◌++◌, ◌+◌, ◌∙◌, ◌∷◌, ◌≡◌, legal_moves, mates_after-are}
 use Rattle.pop_battle.proofs.Boards.{after_start}
 use Rattle.pop_walk.proofs.GoingOn.{cases, ways, walk_length-help, follows-help}
 
@@ -23,17 +23,6 @@ pub turn : (b : Bool) (L : List Move) (m : Move) (xs ys rest : List (List Move))
     → map (λ line. L ++ line) ((given_path b (m ∷ []) ++ map (λ line. m ∷ line) xs) ++ ys) ++ rest ≡ given_path b (L ++ m ∷ [])
     ++ (map (λ line. (L ++ m ∷ []) ++ line) xs ++ (map (λ line. L ++ line) ys ++ rest))
 turn b L m xs ys rest = search (rules, append_assoc, map-append, map-path)
-
--- the steps from a place on, by its next move and by the others
-pub steps-start : (rule : RuleSet) (k : ℕ) (q : Position) → work_from rule k q ≡ 1 + work_after rule k q 0
-unfolding work_from work_after
-steps-start rule k q = search (rules, after_start)
-
--- the next move takes its own steps
-pub work_after-next : (rule : RuleSet) (k : ℕ) (P : Position) (place next : ℕ) (m : Move) → moves_after rule P place ≡ m ∷ moves_after rule P next
-    → work_after rule (suc k) P place ≡ (1 + work_from rule k (position_after rule P m)) + work_after rule (suc k) P next
-unfolding work_after
-work_after-next rule k P place next m e = rw e (sum_by-cons (λ x. 1 + work_from rule k (position_after rule P x)) m (moves_after rule P next))
 
 module _ (rule : RuleSet) (plan : Plan) where
   -- moves that have no paths: at the last half-move those that don't mate, by a side that seeks mate

@@ -1,10 +1,11 @@
 -- What is still to come from the top frame once it is closed, by its next move, and after moves that are skipped: paths, turns and counts.
-use Rattle.pop_walk.proofs.Words.{Battle, Bool, Frame, GoesTo, List, Mate, Move, None, Plan, Position, RuleSet, Some, Steps, Undo, [], allows_mate, ap, arith, chess, eqb, false, refl, false≢true, is_emitted, is_followed, is_mating, legal_moves, length, length-append, map, moves_after, opened_frame, path, position, position_after, rules, seeks_last, shown_paths, suc, sum_by-append, sum_by-cons, sym, to_come, to_open, true, walk_after, walk_count, walk_length, walk_work, work_after, ℕ, ◌++◌, ◌+◌, ◌-◌, ◌<◌, ◌∙◌, ◌∷◌, ◌≡◌, ◌≤◌, ◌⊎◌}
+use Rattle.pop_walk.proofs.Words.{Battle, Bool, Frame, GoesTo, List, Mate, Move, None, Plan, Position, RuleSet, Some, Steps, Undo, [], allows_mate, ap, arith, chess, eqb, false, refl, false≢true, is_emitted, is_followed, is_mating, legal_moves, length, length-append, map, moves_after, opened_frame, path, position, position_after, rules, seeks_last, shown_paths, suc, sum_by-cons, sym, to_come, to_open, true, walk_after, walk_count, walk_length, walk_work, ℕ, ◌++◌, ◌+◌, ◌-◌, ◌∙◌, ◌∷◌, ◌≡◌, ◌≤◌, ◌⊎◌}
 use Rattle.pop_battle.proofs.Boards.{after_start, each_one}
 use Rattle.pop_battle.specs.ties.Frames.{moved}
 use Rattle.pop_walk.proofs.Counting.{CountsAll, counts-by, counts-help, fewest-skipped, last-open, open-close, walk_count-start}
 use Rattle.pop_walk.proofs.GoingOn.{follows-help, no_zero, walk_length-help, walk_length-keys}
-use Rattle.pop_walk.proofs.ToCome.{given_path, is_decided, skipped-over, skipped, steps-start, turn, work_after-next}
+use Rattle.pop_walk.proofs.StepsLeft.{fewer_after}
+use Rattle.pop_walk.proofs.ToCome.{given_path, is_decided, skipped-over, skipped, turn}
 use Rattle.pop_walk.proofs.OutOfReach.{first-none}
 use Rattle.pop_walk.specs.ties.Counts.{Counts, CountsMove, are_whites, fewest_for, fewest_left, fewest_walked, is_walked_once_by, least_if, untried}
 use Rattle.chess_reach.specs.Lines.{HoldsEnds}
@@ -65,16 +66,6 @@ module _ (rule : RuleSet) (plan : Plan) (h : ℕ) (p : Position) (f : Frame) (be
     pub come-leave : plan.battle ≡ None → HoldsEnds plan.goal rule t q 0 → to_come rule plan h p (f ∷ below) ≡ to_come rule plan h p (moved f next ∷ below)
     unfolding to_come position path
     come-leave help none = rw (fuel, left, e, first-none rule plan help root (suc k) t P m (moves_after rule P next) none) refl
-
-    -- a move that isn't followed takes a turn
-    pub turns-unfollowed : walk_work rule h p (moved f next ∷ below) < walk_work rule h p (f ∷ below)
-    unfolding walk_work position
-    turns-unfollowed = rw (fuel, work_after-next rule k P f.place next m e) (omega arith)
-
-    -- following a move takes a turn
-    pub turns-enter : (undo : Undo) (tried : ℕ) → walk_work rule h p (opened_frame m undo tried ∷ (moved f next ∷ below)) < walk_work rule h p (f ∷ below)
-    unfolding walk_work position
-    turns-enter undo tried = search (rules, work_after-next rule k P f.place next m e, steps-start rule k q)
 
     -- a move that is not followed has only its test
     tries-unfollowed : is_followed plan.battle (chess plan.goal rule) root t q ≡ false
@@ -150,15 +141,11 @@ module _ (rule : RuleSet) (plan : Plan) (h : ℕ) (p : Position) (f : Frame) (be
         (same-later (λ n ms. shown_paths plan (chess plan.goal rule) (eqb (length below) 0) (h - length below) n P ms) (skipped rule plan P _ _)
         (λ help for. is_decided rule plan help for P _ _))
 
-    fewer : (k : ℕ) → work_after rule k P g.mid ≤ work_after rule k P f.place
-    unfolding work_after
-    fewer k = search (rules, sum_by-append)
-
     -- what follows skipped moves follows from before them
-    pub walk-skip : (new : List Frame) (board : Position) (given : Bool) → Steps rule plan h p later new board given
+    pub walk-skip : f.place ≤ g.mid → (new : List Frame) (board : Position) (given : Bool) → Steps rule plan h p later new board given
         → Steps rule plan h p (f ∷ below) new board given
     unfolding position walk_work
-    walk-skip new board given s = search (rules, come-skip, fewer)
+    walk-skip le new board given s = search (rules, come-skip, fewer_after (h - length below) f.place g.mid le)
 
     -- with two half-moves left each skipped move would open one frame
     each : (k : ℕ) → k ≡ 2 → walk_after rule k P f.place ≡ length g.over + walk_after rule k P g.mid

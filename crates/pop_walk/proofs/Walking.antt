@@ -1,6 +1,6 @@
 -- The outcomes of a step, with frames listed from the bottom up, as the code holds them, and what its calls
 -- return.
-use Rattle.pop_walk.proofs.Words.{None, Some, all_triples, AreKnown, Bool, CameFrom, CameFromAt, Frame, GoesTo, IfSome, IsNextMate, IsNextOf, IsPlaceIn, IsRoomy, IsWalking, LegalPlace, List, MatchOption, Mate, Option, Plan, Position, RuleSet, [], ap, append-nil, arith, chess, eqb, false, is_followed, is_emitted, walk_length, inl, inr, is_legal, length, length-append, length-reverse, get_or, take, mates_after, nat_tests, moves_after, met_after-end, position, refl, reverse, reverse-append, rules, seeks_last, suc, sym, true, undo_of, ℕ, ◌++◌, ◌+◌, ◌-◌, ◌<◌, ◌∙◌, ◌∷◌, ◌≡◌, ◌≤◌, ◌⊎◌, Move, position_after, opened_frame, nil_from_length, mates_after-are}
+use Rattle.pop_walk.proofs.Words.{None, Some, all_triples, AreKnown, Bool, CameFrom, CameFromAt, Frame, GoesTo, IfSome, IsNextMate, IsNextOf, IsPlaceIn, IsRoomy, IsWalking, LegalPlace, List, MatchOption, Mate, Option, Plan, Position, RuleSet, [], ap, append-nil, arith, chess, eqb, false, is_followed, is_emitted, walk_length, inl, inr, is_legal, length, length-append, length-reverse, get_or, take, mates_after, nat_tests, moves_after, met_after-end, position, refl, reverse, reverse-append, rules, seeks_last, subst, suc, sym, true, undo_of, ℕ, ◌++◌, ◌+◌, ◌-◌, ◌<◌, ◌∙◌, ◌∷◌, ◌≡◌, ◌≤◌, ◌⊎◌, Move, position_after, opened_frame, nil_from_length, mates_after-are}
 use Rattle.std.proofs.lemmas.List.{same_from_push, take_all, take_more}
 use Rattle.pop_battle.specs.ties.Frames.{learned, moved}
 use Rattle.chess_reach.specs.Lines.{HoldsEnds}
@@ -10,6 +10,7 @@ unfoldable use Rattle.pop_walk.specs.ties.Walk.{AreEnds}
 use Rattle.pop_battle.specs.declared.frame.LineEnds.{LineEnds}
 use Rattle.pop_walk.proofs.Outcomes.{CameFrom-deep, walking-close, Taken, walking-learned, steps-ended, steps-learned, skips-close, steps-leave, steps-unfollowed, steps-enter, steps-skip, walking-moved}
 use Rattle.pop_walk.specs.ties.Counts.{CountsMove}
+use Rattle.pop_walk.proofs.StepsLeft.{onward}
 
 -- a push, and the frames before a frame was taken off, seen from the top
 pub reverse-push : (xs : List Frame) (x : Frame) → reverse (xs ++ x ∷ []) ≡ x ∷ reverse xs
@@ -88,6 +89,9 @@ module _ (rule : RuleSet) (plan : Plan) (h : ℕ) (top : Frame) (old new : List 
     abbrev arrived : Position
     arrived = position_after rule now m
 
+    skips : (g : GoesTo rule plan top.left board top.place (m ∷ moves_after rule board place) opened between) × (top.place ≤ g.mid)
+    skips = onward rule board top.place _ _ some.1
+
     mid_is : reverse mid ≡ moved (learned top known) place ∷ reverse new
     mid_is = popped mid new _ put
 
@@ -105,22 +109,23 @@ module _ (rule : RuleSet) (plan : Plan) (h : ℕ) (top : Frame) (old new : List 
         let r2 = walking-learned rule h p top known (reverse new) now (walking_top p board now r at) (rw at within) in
         let flag2 : eqb (length (reverse new)) 0 ≡ root = grind (arith, depth_is) in
         let lawful : is_legal rule now m ≡ true = rw at some.2 in
-        let g = rw (← at, r2.board_at) at some.1 in
+        let o = rw (← at, r2.board_at) at skips in
+        let g = o.0 in
         let r3 = walking-moved rule h p f g.mid (reverse new) now now r2 refl in
-        let here : moves_after rule now g.mid ≡ m ∷ moves_after rule now place = rw r2.board_at g.here in
+        let here = subst (λ q. moves_after rule q g.mid ≡ m ∷ moves_after rule q place) (sym r2.board_at) g.here in
         elim (cases (is_followed plan.battle (chess plan.goal rule) root following arrived)) [
           | inl off ↦
               let x = unfollowed off in
               let s = steps-unfollowed full rule plan h p (moved f g.mid) (reverse new) now r3 place m following left here after between opened2
               (rw flag2 off) x.1 (rw flag2 counts) in
               rw (popped old new top taken, x.2, mid_is, x.0) (steps-learned full rule plan h p top known (reverse new) _ after opened opened2 false
-              (steps-skip full rule plan h p f (reverse new) _ opened between g _ after opened2 false s))
+              (steps-skip full rule plan h p f (reverse new) _ opened between g o.1 _ after opened2 false s))
           | inr entered ↦
               let x = enters entered in
               let s = steps-enter full rule plan h p (moved f g.mid) (reverse new) now r3 place m following left here after between opened2 lawful
               (rw flag2 entered) x.1 (rw flag2 counts) in
               rw (popped old new top taken, x.2, reverse-push mid, mid_is, x.0) (steps-learned full rule plan h p top known (reverse new) _ after opened opened2 _
-              (steps-skip full rule plan h p f (reverse new) _ opened between g _ after opened2 _ s))
+              (steps-skip full rule plan h p f (reverse new) _ opened between g o.1 _ after opened2 _ s))
         ]
 
     -- a step that leaves its next move
@@ -130,12 +135,13 @@ module _ (rule : RuleSet) (plan : Plan) (h : ℕ) (top : Frame) (old new : List 
         let left : top.left ≡ suc following = omega (arith, some.0) in
         let f = learned top known in
         let r2 = walking-learned rule h p top known (reverse new) now (walking_top p board now r at) (rw at within) in
-        let g = rw (← at, r2.board_at) at some.1 in
+        let o = rw (← at, r2.board_at) at skips in
+        let g = o.0 in
         let r3 = walking-moved rule h p f g.mid (reverse new) now now r2 refl in
-        let here : moves_after rule now g.mid ≡ m ∷ moves_after rule now place = rw r2.board_at g.here in
+        let here = subst (λ q. moves_after rule q g.mid ≡ m ∷ moves_after rule q place) (sym r2.board_at) g.here in
         let s = steps-leave full rule plan h p (moved f g.mid) (reverse new) now r3 place m following left here after between part help none stays in
         rw (popped old new top taken, mid_is) (steps-learned full rule plan h p top known (reverse new) _ after opened between false
-        (steps-skip full rule plan h p f (reverse new) _ opened between g _ after between false s))
+        (steps-skip full rule plan h p f (reverse new) _ opened between g o.1 _ after between false s))
 
     -- what is known of the lines from the position that was entered is kept there
     pub kept_steps : (full root given : Bool) (after : Position) (last kept : List Frame) (opened2 : ℕ) (prunes : Bool) (ends : Option LineEnds)

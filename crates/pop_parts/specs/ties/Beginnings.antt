@@ -55,7 +55,7 @@ pub record Seeks (rule : RuleSet) (h d : ℕ) (p : Position) (old new : List Fra
       ≡ path_found new found ++ beginnings_to_come goal rule d p new
   pub legal : IfSome found (λ m. is_legal rule board m ≡ true)
   pub full : IfSome found (λ m. length new ≡ d)
-  pub falls : walk_work rule h p new < walk_work rule h p old
+  pub falls : walk_work d new < walk_work d old
 
 -- the walk found the list with this number, counted from 1 among the lists to come, or found that there
 -- are fewer; the lists after it are still to come

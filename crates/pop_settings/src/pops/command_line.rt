@@ -49,7 +49,7 @@ fn settings_of(alloc: Global, matches: &ArgMatches<'_>) -> Result<Settings, ArgF
 fn arg_matches<'a>(alloc: Global, words: &'a [&'a str]) -> Result<ArgMatches<'a>, Error>
     ensures rows { IfOk result (λ m. rows_of (found_of m)
         ≡ matches_of command (map (λ s. s.now) words.now)) }
-    ensures passes { IfErr result (λ e. takes command (map (λ s. s.now) words.now) ≡ true
+    ensures memory { IfErr result (λ e. takes command (map (λ s. s.now) words.now) ≡ true
         → kind_of e ≡ ErrorKind.OutOfMemory) }
     ensures kinds { FailsBy (refusals (map (λ s. s.now) words.now)) result }
 {

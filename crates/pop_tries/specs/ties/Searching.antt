@@ -27,9 +27,7 @@ use Rattle.pop_tries.specs.ties.Contests.{AreThreats, IsContest}
 use Rattle.pop_tries.specs.ties.Candidates.{candidates_of}
 use Rattle.pop_tries.specs.ties.FirstMoves.{firsts_after as firsts_of, is_shown, refutes, AreCandidates, AreRefuting, AreTries, IsAsked}
 use Rattle.pop_tries.specs.declared.kept_tries.Candidates.{Candidates}
-use Rattle.pop_tries.specs.ties.Starts.{base_position, shown_line}
-use Rattle.pop_tries.specs.declared.below.Base.{Base}
-use Rattle.pop_tries.specs.declared.below.WalkBelow.{WalkBelow}
+use Rattle.pop_tries.specs.ties.Starts.{Base, base_position, shown_line}
 use Rattle.pop_tries.specs.declared.contest.Contest.{Contest}
 use Rattle.pop_tries.specs.declared.desk.Desk.{Desk}
 use Rattle.pop_tries.specs.declared.first_moves.Group.{Group}
@@ -41,8 +39,9 @@ use Rattle.pop_tries.specs.declared.stage.Course.TheVariants.{NoTries, InBattle,
 use Rattle.pop_tries.specs.declared.stage.First.{First}
 use Rattle.pop_tries.specs.declared.stage.Firsts.{Firsts}
 use Rattle.pop_tries.specs.declared.stage.Task.{Task}
+use Rattle.pop_tries.specs.declared.stage.TheConstants.{MOST_REFUTATIONS}
 use Rattle.pop_tries.specs.declared.stage.TriesStage.{TriesStage}
-use Rattle.pop_tries.specs.declared.stage.TriesStage.TheVariants.{SetPlay, Impossible, Within, Beginning, FirstMove, Faced, Threats, Reply, BelowReply, But, Refutation, Stalemate, Over}
+use Rattle.pop_tries.specs.declared.stage.TriesStage.TheVariants.{SetPlay, NotPossible, Within, Beginning, FirstMove, Faced, Threats, Reply, BelowReply, But, Refutation, Stalemate, Over}
 
 -- what contracts see of a search for tries: the problem, the most refutations of a try, and the events
 -- still to come
@@ -78,21 +77,19 @@ abbrev pub IsInLimit : Posed → Group → ℕ → Type 0
 IsInLimit problem Keys count = count ≤ problem.max_solutions
 IsInLimit problem (Tries most) count = Unit {0}
 
--- the whole course of a problem with tries of at most `most` refutations
-abbrev pub course_by : {A : Type 0} → Option Battle → Bool → Posed → (most : ℕ) → Course A
-course_by None set_play problem most = NoTries
-course_by (Some battle) set_play problem most =
-    InBattle (record { problem = problem; battle = battle; most = most })
-    (if set_play then SetPlay else Beginning Keys (candidates_of None))
+-- the whole course of a problem
+abbrev pub course_by : {A : Type 0} → Option Battle → Bool → Course A
+course_by None set_play = NoTries
+course_by (Some battle) set_play =
+    InBattle battle (if set_play then SetPlay else Beginning Keys (candidates_of None))
 
-abbrev pub first_course : {A : Type 0} → Posed → (most : ℕ) → Course A
-first_course problem most =
-    course_by (battle_of problem.stipulation.form) problem.set_play problem most
+abbrev pub first_course : {A : Type 0} → Posed → Course A
+first_course problem = course_by (battle_of problem.stipulation.form) problem.set_play
 
 -- nothing is left to return
 abbrev pub is_over : {A : Type 0} → TriesStage A → Bool
 is_over SetPlay = false
-is_over Impossible = false
+is_over NotPossible = false
 is_over (Within stage) = false
 is_over (Beginning group candidates) = false
 is_over (FirstMove firsts) = false
@@ -104,15 +101,6 @@ is_over (But first) = false
 is_over (Refutation first place) = false
 is_over (Stalemate first) = false
 is_over Over = true
-
--- the walk below a first move from a position
-abbrev pub walk_below : Task → Move → Base → WalkBelow
-walk_below task first base = record {
-  plan = plan_of task.problem;
-  half_moves = half_moves task.problem.stipulation - 2;
-  first = first;
-  base = base;
-}
 
 -- the limit of solutions stops a group that has shown `count` first moves
 abbrev pub is_stopped : Posed → Group → ℕ → Bool
@@ -199,12 +187,17 @@ module _ (rule : RuleSet) (task : Task) where
   walk_left p items = to_come rule (plan_of task.problem)
       (half_moves task.problem.stipulation - 2) p (reverse items)
 
+  -- the board has the position of the top frame of a walk from p below a first move
+  abbrev pub IsOnWalk : Position → List Frame → Position → Type 0
+  IsOnWalk p items board =
+      IsWalking rule (half_moves task.problem.stipulation - 2) p (reverse items) board
+
   -- a walk below a first move shows its next node; after the last one the board has the position where the
   -- walk started, and no frame is left
   abbrev pub ShowsNode : Move → Base → (old new : List Frame) → Position → Option TryEvent → Type 0
   ShowsNode first base old new board event =
       let p = base_position rule task.problem first base in
-      MatchOption event ((walk_left p old ≡ []) × (board ≡ p) × (new ≡ []))
+      IsOnWalk p new board × MatchOption event ((walk_left p old ≡ []) × (board ≡ p) × (new ≡ []))
       (λ shown. (line : List Move) × (walk_left p old ≡ line ∷ walk_left p new)
       × (shown ≡ try_event_of rule task.problem (below first (shown_line base line))))
 
@@ -216,7 +209,7 @@ module _ (rule : RuleSet) (task : Task) where
   unfoldable pub left_of : {A : Type 0} → TriesStage A → List Frame → List BareTryEvent
   left_of SetPlay items =
       map set_event (phase_events rule task.problem Set) ++ whole_group Keys
-  left_of Impossible items = set_event impossible ∷ whole_group Keys
+  left_of NotPossible items = set_event impossible ∷ whole_group Keys
   left_of (Within stage) items =
       map set_event (set_play_left rule task.problem stage (reverse items)) ++ whole_group Keys
   left_of (Beginning group candidates) items = whole_group group
@@ -275,13 +268,13 @@ module _ (rule : RuleSet) (task : Task) where
       (board : Position) : Type 0 where
     pub first_is : IsFirst first
     pub threat : AreThreats rule (contest_of task) (after_first first.by) first.threat
-    pub walking : IsWalking rule (half_moves task.problem.stipulation - 2) p (reverse items) board
+    pub walking : IsOnWalk p items board
 
   -- what holds of board and frames
   unfoldable pub HoldsAt : {A : Type 0} → TriesStage A → List Frame → Position → Type 0
   HoldsAt SetPlay items board =
       IsContest (contest_of task) × IsBare (play_start task.problem) items board
-  HoldsAt Impossible items board =
+  HoldsAt NotPossible items board =
       IsContest (contest_of task) × IsBare (play_start task.problem) items board
   HoldsAt (Within stage) items board = IsContest (contest_of task)
       × HoldsAtStage rule task.problem stage (reverse items) board
@@ -315,10 +308,10 @@ module _ (rule : RuleSet) (task : Task) where
       (λ shown. (bare : BareTryEvent) × (old ≡ bare ∷ new)
       × (shown ≡ try_event_of rule task.problem bare))
 
--- what is known of a task: the problem is sound, and tries have at most 200 refutations
+-- what is known of a task: the problem is sound, and tries have no more refutations than can be asked for
 pub record IsTask (task : Task) : Type 0 where
   pub sound : IsSound task.problem
-  pub few : task.most ≤ 200
+  pub few : task.most ≤ MOST_REFUTATIONS
 
 -- what a step of a search for tries, or more of them, begins with: `most` frames leave room for the play
 pub record MayStepWith {A : Type 0} (rule : RuleSet) (task : Task) (stage : TriesStage A) (items : List Frame)
@@ -330,7 +323,7 @@ pub record MayStepWith {A : Type 0} (rule : RuleSet) (task : Task) (stage : Trie
 -- how many more steps may return no event
 unfoldable pub rank : {A : Type 0} → TriesStage A → ℕ
 rank SetPlay = 0
-rank Impossible = 0
+rank NotPossible = 0
 rank (Within stage) = 1
 rank (Beginning group candidates) = 0
 rank (FirstMove firsts) = 0
@@ -361,16 +354,22 @@ abbrev pub Goes : {A : Type 0} {n : ℕ} → RuleSet → Task → (old : TriesSt
 Goes rule task old was new desk event =
     GoesWith rule task old was.frames.items new desk.frames.items desk.board event
 
--- the events of a course still to come
-abbrev pub left_on : {A : Type 0} → RuleSet → Course A → List Frame → List BareTryEvent
-left_on rule NoTries items = no_tries ∷ []
-left_on rule (InBattle task stage) items = left_of rule task stage items
-left_on rule Ended items = []
+-- what a search covers in a battle
+abbrev pub task_of : Posed → (most : ℕ) → Battle → Task
+task_of problem most battle = record { problem = problem; battle = battle; most = most }
 
--- what holds of a search on the course of a problem: in a battle it may step, with `room` frames
-abbrev pub IsOnCourse : {A : Type 0} → RuleSet → Posed → Course A → List Frame → Position → (room : ℕ)
-    → Type 0
-IsOnCourse rule problem NoTries items board room = Unit {0}
-IsOnCourse rule problem (InBattle task stage) items board room =
-    (task.problem ≡ problem) × MayStepWith rule task stage items board room
-IsOnCourse rule problem Ended items board room = Unit {0}
+-- the events of a course still to come
+abbrev pub left_on : {A : Type 0} → RuleSet → Posed → (most : ℕ) → Course A → List Frame
+    → List BareTryEvent
+left_on rule problem most NoTries items = no_tries ∷ []
+left_on rule problem most (InBattle battle stage) items =
+    left_of rule (task_of problem most battle) stage items
+left_on rule problem most Ended items = []
+
+-- what holds of a search on its course: in a battle it may step, with `room` frames
+abbrev pub IsOnCourse : {A : Type 0} → RuleSet → Posed → (most : ℕ) → Course A → List Frame
+    → Position → (room : ℕ) → Type 0
+IsOnCourse rule problem most NoTries items board room = Unit {0}
+IsOnCourse rule problem most (InBattle battle stage) items board room =
+    MayStepWith rule (task_of problem most battle) stage items board room
+IsOnCourse rule problem most Ended items board room = Unit {0}

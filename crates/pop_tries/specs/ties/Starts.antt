@@ -11,21 +11,25 @@ use Rattle.pop_battle.specs.ties.Values.{attacker_to_move, value}
 use Rattle.pop_input.specs.Posed.{Posed}
 use Rattle.pop_walk.specs.Events.{play_start}
 use Rattle.pop_walk.specs.declared.plan.Plan.{Plan}
-use Rattle.pop_walk.specs.ties.Walk.{IsEnded, path, to_come}
+use Rattle.pop_walk.specs.ties.Walk.{IsEnded, IsWalking, path, to_come}
 use Rattle.pop_tries.specs.Tries.{Below, below_reply, reply, threatened}
-use Rattle.pop_tries.specs.declared.below.Base.{Base}
-use Rattle.pop_tries.specs.declared.below.Base.TheVariants.{Passed, Reply}
+
+-- where a walk below a first move starts: after Black has passed, to show the threats, or after a reply
+pub data Base : Type 0 where
+  by_passing : Base
+  by_reply : Move → Base
 
 -- the position where a walk starts
 abbrev pub base_position : RuleSet → Posed → Move → Base → Position
-base_position rule problem first Passed = set_start (position_after rule (play_start problem) first)
-base_position rule problem first (Reply by) =
-    position_after rule (position_after rule (play_start problem) first) by
+base_position rule problem first by_passing =
+    set_start (position_after rule (play_start problem) first)
+base_position rule problem first (by_reply m) =
+    position_after rule (position_after rule (play_start problem) first) m
 
 -- what is shown for a line of moves of a walk
 abbrev pub shown_line : Base → List Move → Below Move
-shown_line Passed line = threatened line
-shown_line (Reply by) line = reply (by ∷ line)
+shown_line by_passing line = threatened line
+shown_line (by_reply m) line = reply (m ∷ line)
 
 -- a walk from p with h half-moves left shows what stands below a reply, if White, to move, wins there
 abbrev pub ShowsBelow : RuleSet → Plan → ℕ → Position → List Frame → Type 0
@@ -35,9 +39,10 @@ ShowsBelow rule plan h p frames = (battle : Battle) (n : ℕ) → plan.battle �
     → to_come rule plan h p frames
     ≡ below_reply battle (chess plan.goal rule) n plan.variation h p
 
--- a walk from p shows the next of the nodes still to come, or there is none
+-- a walk from p goes on to the next of the nodes still to come, which is shown, or there is none
 pub record ShowsNext (rule : RuleSet) (plan : Plan) (h : ℕ) (p : Position) (old new : List Frame)
     (board : Position) (shown : Bool) : Type 0 where
+  pub walking : IsWalking rule h p new board
   pub next : shown ≡ true → to_come rule plan h p old ≡ path new ∷ to_come rule plan h p new
   pub deep : shown ≡ true → 2 ≤ length new
   pub ended : shown ≡ true → IsEnded rule plan new board

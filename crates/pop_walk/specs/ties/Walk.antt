@@ -3,7 +3,7 @@ use Rattle.pop_walk.specs.Events.{Path}
 pub use Rattle.pop_stipulation.specs.declared.stipulation.Battle.{Battle}
 use Rattle.pop_stipulation.specs.declared.stipulation.Battle.TheVariants.{Direct, Selfmate}
 pub use Rattle.pop_stipulation.specs.declared.stipulation.Goal.TheVariants.{Mate}
-use Rattle.std.specs.Prelude.{◌≡◌, ℕ, zero, suc, ◌+◌, ◌-◌, ◌/◌, ◌≤◌, ◌<◌, ◌==◌, Bool, true, false, not, ◌&&◌, ◌||◌, if◌then◌else◌, List, [], ◌∷◌, ◌++◌, map, length, filter, Option, Some, None, IfSome, MatchOption, ◌⊎◌}
+use Rattle.std.specs.Prelude.{◌≡◌, ℕ, zero, suc, ◌+◌, ◌-◌, ◌*◌, ◌/◌, ◌≤◌, ◌<◌, ◌==◌, Bool, true, false, not, ◌&&◌, ◌||◌, if◌then◌else◌, List, [], ◌∷◌, ◌++◌, map, length, filter, Option, Some, None, IfSome, MatchOption, ◌⊎◌}
 use Rattle.std.specs.List.{flat_map}
 pub use Rattle.chess_core.specs.Position.{Position}
 use Rattle.chess_core.specs.Position.{king_square}
@@ -11,7 +11,7 @@ use Rattle.chess_core.specs.declared.man.Move.{Move}
 pub use Rattle.chess_core.specs.WellFormed.{IsWellFormed}
 use Rattle.chess_reach.specs.Lines.{HoldsEnds}
 use Rattle.chess_rules.specs.Play.{position_after}
-use Rattle.chess_rules.specs.ties.Places.{IsPlaceIn, LegalPlace, moves_after}
+use Rattle.chess_rules.specs.ties.Places.{IsPlaceIn, LegalPlace, all_triples, moves_after}
 use Rattle.chess_flights.specs.ties.Mates.{is_mating}
 use Rattle.chess_rules.specs.Legal.{is_legal, is_mate}
 use Rattle.chess_attacks.specs.RuleSet.{RuleSet}
@@ -20,7 +20,7 @@ use Rattle.pop_battle.specs.Game.{Game}
 pub use Rattle.pop_battle.specs.ties.Values.{attacker_to_move, value}
 pub use Rattle.pop_battle.specs.Chess.{chess}
 pub use Rattle.pop_battle.specs.ties.Frames.{Frame}
-use Rattle.pop_battle.specs.ties.Frames.{AreKnown, learned, moved, position, IsLinked, work_after, left_at_top}
+use Rattle.pop_battle.specs.ties.Frames.{AreKnown, learned, moved, position, IsLinked, left_at_top}
 use Rattle.pop_battle.specs.ties.Skipping.{CannotBeMated, SkipsMoves}
 use Rattle.pop_battle.specs.declared.frame.LineEnds.{LineEnds}
 use Rattle.pop_walk.specs.declared.plan.Plan.{Plan}
@@ -119,12 +119,16 @@ pub record IsWalking (rule : RuleSet) (h : ℕ) (p : Position) (frames : List Fr
   pub sound : IsWellFormed board
   pub board_at : board ≡ position rule p frames
 
--- the most steps that a walk can still take; it falls with each step
-unfoldable pub walk_work : RuleSet → ℕ → Position → List Frame → ℕ
-walk_work rule h p [] = 0
-walk_work rule h p (f ∷ below) =
-    1 + work_after rule (h - length below) (position rule p (f ∷ below)) f.place
-    + walk_work rule h p below
+-- the most steps for the triples after a place, with k half-moves left, in any position: each triple may be
+-- a move, which opens a frame
+unfoldable pub steps_after : ℕ → ℕ → ℕ
+steps_after zero place = 0
+steps_after (suc k) place = (all_triples - place) * (2 + steps_after k 0)
+
+-- the most steps that a walk over h half-moves can still take, wherever it started; it falls with each step
+unfoldable pub walk_work : ℕ → List Frame → ℕ
+walk_work h [] = 0
+walk_work h (f ∷ below) = 1 + steps_after (h - length below) f.place + walk_work h below
 
 -- the side that makes the last half-move wants to reach the goal: either side in help play, White in a
 -- direct mate
@@ -217,4 +221,4 @@ pub record Steps (rule : RuleSet) (plan : Plan) (h : ℕ) (p : Position) (old ne
       ++ to_come rule plan h p new
   pub deep : given ≡ true → length new ≡ length old + 1
   pub ended : given ≡ true → IsEnded rule plan new board
-  pub falls : walk_work rule h p new < walk_work rule h p old
+  pub falls : walk_work h new < walk_work h old

@@ -3,9 +3,9 @@ use Rattle.pop_battle.proofs.Boards.{unreached}
 use Rattle.pop_battle.proofs.Values as values
 use Rattle.pop_battle.proofs.value.value_at_once.Goals as goal
 
-pub returns-then-left-eq0-clause-value : goal.returns-then-left-eq0-clause-value
+pub returns-in_default-default-eq0-clause-value : goal.returns-in_default-default-eq0-clause-value
 unfolding value
-returns-then-left-eq0-clause-value g c = search rules
+returns-in_default-default-eq0-clause-value g c = search rules
 
 pub returns-else-is_some-clause-tried : goal.returns-else-is_some-clause-tried
 unfolding smallest_tree

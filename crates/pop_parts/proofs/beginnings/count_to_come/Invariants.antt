@@ -7,4 +7,4 @@ invariant-loop-board g l = CountsOn g.R.Rules.rule (phase_half_moves l.problem l
     (reverse l.fn.frames.items) (reverse l.frames.items) l.board l.count
 
 abbrev pub decreases-loop-board : goal.decreases-loop-board
-decreases-loop-board g l = walk_work g.R.Rules.rule (phase_half_moves l.problem l.fn.phase) (phase_start l.problem l.fn.phase) (reverse l.frames.items)
+decreases-loop-board g l = walk_work l.depth (reverse l.frames.items)

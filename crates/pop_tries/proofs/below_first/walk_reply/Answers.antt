@@ -3,22 +3,24 @@ unfoldable use Rattle.pop_tries.specs.ties.Searching.{HoldsAt, rank}
 use Rattle.pop_tries.specs.ties.Searching.{after_first}
 use Rattle.pop_tries.proofs.Goings.{with_event, without_event}
 use Rattle.pop_tries.proofs.StepsBelow as steps
-use Rattle.pop_tries.proofs.GoesBelow.{replies_follow, played_from, taken_back}
+use Rattle.pop_tries.proofs.GoesBelow.{replies_follow, played_from, taken_back, walked_on}
+use Rattle.pop_tries.specs.ties.Starts.{by_reply}
 use Rattle.pop_tries.proofs.below_first.walk_reply.Goals as goal
 
 pub returns-in-Some : goal.returns-in-Some
 unfolding HoldsAt
 returns-in-Some g c =
     let h = c.requires.holds in
-    let next = c.in-Some.ensures.next in
-    with_event g.R.Rules.rule c.args.task.now _ _ _ _ _ (h.0, c.next_node-next.ensures.walked, h.2) _ _
-    (steps.reply_goes_on g.R.Rules.rule c.args.task.now h.0 c.args.first c.args.reply _ _ next.0 next.1) next.2
+    let next = c.next_node-next.ensures.next c.args.first.by (by_reply c.args.reply.by) h.1.walking in
+    let shown = rw c.in-Some.is at next.1 in
+    with_event g.R.Rules.rule c.args.task.now _ _ _ _ _ (h.0, walked_on g.R.Rules.rule c.args.task.now c.args.first _ _ _ _ _ h.1 next.0, h.2) _ _
+    (steps.reply_goes_on g.R.Rules.rule c.args.task.now h.0 c.args.first c.args.reply _ _ shown.0 shown.1) shown.2
 
 pub unplay-requires : goal.unplay-requires
 unfolding HoldsAt
 unplay-requires g c =
     let reply = c.args.reply in
-    let none = c.in_default.ensures.next in
+    let none = rw c.in_default.is at (c.next_node-next.ensures.next c.args.first.by (by_reply reply.by) c.requires.holds.1.walking).1 in
     let q = after_first g.R.Rules.rule c.args.task.now c.args.first.by in
     search (played_from g.R.Rules.rule reply.by reply.undo c.next_node-next.new.desk.board q (rw none.1 c.requires.holds.2))
 
@@ -29,7 +31,7 @@ returns g c =
     let rule = g.R.Rules.rule in
     let task = c.args.task.now in
     let reply = c.args.reply in
-    let none = c.in_default.ensures.next in
+    let none = rw c.in_default.is at (c.next_node-next.ensures.next c.args.first.by (by_reply reply.by) h.1.walking).1 in
     let back = taken_back rule reply.by reply.undo _ (after_first rule task c.args.first.by) _ (rw none.1 h.2) c.unplay.ensures.before in
     without_event rule task _ _ _ _ _ (h.0, replies_follow rule task c.args.first _ _ _ _ _ h.1 back none.2)
     (steps.reply_over rule task h.0 c.args.first reply _ _ none.0) (omega arith)

@@ -6,9 +6,9 @@ use Rattle.pop_walk.specs.Events.{impossible}
 use Rattle.pop_tries.proofs.Goings.{with_event}
 use Rattle.pop_tries.proofs.search.take_step.Goals as goal
 
-pub returns-in-Impossible : goal.returns-in-Impossible
+pub returns-in-NotPossible : goal.returns-in-NotPossible
 unfolding HoldsAt left_of
-returns-in-Impossible g c =
-    let h = rw c.in-Impossible.is at c.requires.may_step.holds in
-    rw (c.in-Impossible.is, c.beginning_of_keys.ensures)
+returns-in-NotPossible g c =
+    let h = rw c.in-NotPossible.is at c.requires.may_step.holds in
+    rw (c.in-NotPossible.is, c.beginning_of_keys.ensures)
     (with_event g.R.Rules.rule c.args.task.now _ _ _ _ _ (h.0, h.1, tt, unknown_keys g.R.Rules.rule (contest_of c.args.task.now) c.args.task.now.most (play_start c.args.task.now.problem) _ refl) _ (set_event impossible) refl refl)

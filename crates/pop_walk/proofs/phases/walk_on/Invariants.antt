@@ -10,4 +10,4 @@ invariant-loop-frames g l = IsWalking g.R.Rules.rule l.fn.walk.half_moves (phase
     (reverse l.frames.items) l.fn.search_state.opened l.search_state.opened
 
 abbrev pub decreases-loop-frames : goal.decreases-loop-frames
-decreases-loop-frames g l = walk_work g.R.Rules.rule l.fn.walk.half_moves (phase_start l.problem l.fn.walk.phase) (reverse l.frames.items)
+decreases-loop-frames g l = walk_work l.fn.walk.half_moves (reverse l.frames.items)

@@ -1,5 +1,5 @@
 use Rattle.pop_settings.proofs.Basics.{app_of, is_simple, map, refl, true, ◌≡◌}
-use Rattle.pop_settings.proofs.Matching.{matched_kinds, matched_passes, matched_rows}
+use Rattle.pop_settings.proofs.Matching.{matched_kinds, matched_memory, matched_rows}
 unfoldable use Rattle.pop_settings.specs.pops_tries.CommandLine.{command}
 use Rattle.clap.specs.Faults.{is_simple_and_free}
 use Rattle.clap.proofs.OnLiterals.{clap_on_literals}
@@ -22,9 +22,9 @@ pub returns-clause-rows : goal.returns-clause-rows
 returns-clause-rows c = let parse = c.try_get_matches_from in
     matched_rows parse.result _ _ (map (λ s. s.now) c.args.words.now) (command_is c) is_simple_command parse.ensures.matches
 
-pub returns-clause-passes : goal.returns-clause-passes
-returns-clause-passes c = let parse = c.try_get_matches_from in
-    matched_passes parse.result _ _ (map (λ s. s.now) c.args.words.now) (command_is c) parse.ensures.passes
+pub returns-clause-memory : goal.returns-clause-memory
+returns-clause-memory c = let parse = c.try_get_matches_from in
+    matched_memory parse.result _ _ (map (λ s. s.now) c.args.words.now) (command_is c) parse.ensures.passes
 
 pub returns-clause-kinds : goal.returns-clause-kinds
 returns-clause-kinds c = let parse = c.try_get_matches_from in
