@@ -6,6 +6,7 @@ import shutil
 import subprocess
 import sys
 import tempfile
+import time
 import unittest
 from pathlib import Path
 from typing import Optional
@@ -144,6 +145,9 @@ class Places(Room):
         self.assertEqual(self.found(root / "companions", path=nowhere), self.unbuilt(root))
         built = self.program(root / "crates" / "pops" / "out" / "pops")
         self.assertEqual(self.found(root / "companions"), str(built))
+        # (of a clock that was ahead: nobody knows which changes it has)
+        os.utime(built, (time.time() + 86400,) * 2)
+        self.assertEqual(self.found(root / "companions"), str(self.elsewhere))
 
     def test_the_released_one_of_a_repository(self) -> None:
         root = self.repository()

@@ -1,7 +1,9 @@
 """pops-many --seconds: problems that take longer, what is kept of them, and going on with them."""
 
+import os
 import subprocess
 import unittest
+from pathlib import Path
 
 from pops_companions.many.tasks import whole_lines
 from tests import run_here, support
@@ -76,8 +78,67 @@ class Seconds(SixProblems):
         self.assertEqual(self.files(), ["six.report"])
 
     def test_a_run_in_time_leaves_no_second_file(self) -> None:
-        self.rest.write_bytes(b"of a run before")
-        self.assertEqual(self.many(support.pops(), "--seconds", "30"), (0, b"", ""))
+        long = self.marked(b"".join(b"line %d\n" % number for number in range(3000)), b"3")
+        for before in (self.marked(b"", b"3"), long, long.replace(b"six.pop", b"six\n.pop"), b""):
+            self.rest.write_bytes(before)
+            self.assertEqual(self.many(support.pops(), "--seconds", "30"), (0, b"", ""))
+            self.assertEqual(self.report.read_bytes(), self.wanted)
+            self.assertEqual(self.files(), ["six.report"])
+
+    def test_a_foreign_second_file_is_refused_and_stays(self) -> None:
+        pops = self.stand_in(":")
+        own = self.marked(b"line one\n", b"3")
+        # (any program will do: nothing is run)
+        split = ["--split", "--pops-part", pops]
+        journal = ["--journal", str(self.journal), str(self.input)]
+        cases = [
+            ("six.report.unfinished", ["-o", str(self.report), "--seconds", "30", str(self.input)]),
+            ("six.report.unfinished", ["-o", str(self.report), *split, str(self.input)]),
+            ("six.report.unfinished", ["--each", "--seconds", "30", str(self.input)]),
+            ("mine", ["--unfinished", str(self.room / "mine"), "--seconds", "30", *journal]),
+            ("six.report.journal.unfinished", [*split, *journal]),
+        ]
+        for text in (b"my notes\n", own + b"my notes\n", own[:-1], self.wanted):
+            for name, words in cases:
+                with self.subTest(words, text=text):
+                    (self.room / name).write_bytes(text)
+                    self.refuses(pops, words, self.room / name)
+                    self.assertEqual((self.room / name).read_bytes(), text)
+                    (self.room / name).unlink()
+
+    def test_a_link_or_pipe_by_the_second_files_name_is_refused_and_stays(self) -> None:
+        target = self.room / "target"
+        target.write_bytes(self.marked(b"", b"3"))
+        words = ["-o", str(self.report), "--seconds", "30", str(self.input)]
+        self.rest.symlink_to(target)
+        self.refuses(self.stand_in(":"), words, self.rest)
+        self.assertTrue(self.rest.is_symlink() and target.exists())
+        self.rest.unlink()
+        os.mkfifo(self.rest)
+        self.refuses(self.stand_in(":"), words, self.rest)
+        self.assertTrue(self.rest.is_fifo())
+
+    def refuses(self, pops: str, words: list[str], second: Path) -> None:
+        """A run is refused because of its second file, before anything is run or written."""
+        before = self.files()
+        outcome = run_here.companion("pops-many", "--pops", pops, "--jobs", "1", *words)
+        said = f"pops-many: {second} isn't a file that pops-many wrote: remove or rename it\n"
+        self.assertEqual(outcome, (2, b"", said))
+        self.assertEqual(self.files(), before)
+        self.assertFalse((self.room / "runs").exists())
+
+    def test_a_foreign_file_that_comes_meanwhile_stays(self) -> None:
+        comes = f"echo mine > '{self.rest}'"
+        self.assertEqual(self.many(self.stand_in(comes), "--seconds", "30"), (0, b"", ""))
+        self.assertEqual(self.rest.read_bytes(), b"mine\n")
+        self.assertEqual(self.files(), ["six.report", "six.report.unfinished"])
+        self.rest.unlink()
+        outcome = self.many(self.slow(f"{comes}; {TWO_LINES}"), "--seconds", "3")
+        self.assertEqual(outcome.status, 6)
+        self.assertIn(f"cannot write: {self.rest} isn't a file that pops-many wrote", outcome.error)
+        self.assertEqual(self.rest.read_bytes(), b"mine\n")
+        self.rest.unlink()
+        self.assertEqual(self.many(support.pops(), "--resume"), (0, b"", ""))
         self.assertEqual(self.report.read_bytes(), self.wanted)
         self.assertEqual(self.files(), ["six.report"])
 

@@ -6,6 +6,7 @@ The texts of tries come from the plain solver of the tests.
 import functools
 import html
 import io
+import os
 import re
 import shutil
 import subprocess
@@ -665,11 +666,26 @@ class Forms(Case):
             self.assertIn("--to pdf needs chromium, which isn't on the PATH", outcome.error)
             print("test_sheet: no chromium here: no PDF was made")
             return
-        outcome = self.sheet(TWINS, "--to", "pdf")
+        home = self.room / "home"
+        home.mkdir()
+        with mock.patch.dict(os.environ, {"HOME": str(home)}):
+            for name in ("CHROME_CONFIG_HOME", "XDG_CONFIG_HOME", "XDG_CACHE_HOME", "XDG_RUNTIME_DIR"):
+                os.environ.pop(name, None)
+            outcome = self.sheet(TWINS, "--to", "pdf")
+        self.assertEqual(list(home.rglob("*")), [], "the browser left files")
         self.assertEqual((outcome.status, outcome.output[:5]), (0, b"%PDF-"))
         sizes = re.findall(rb"/MediaBox \[0 0 ([\d.]+) ([\d.]+)\]", outcome.output)
         found = {(round(float(width) / 72 * 25.4), round(float(height) / 72 * 25.4)) for width, height in sizes}
         self.assertEqual(found, {(210, 297)})
+
+    def test_where_a_browser_writes(self) -> None:
+        """In the folder of the run; it finds the user's fonts in HOME."""
+        names = ("HOME", "XDG_DATA_HOME", "CHROME_CONFIG_HOME", "XDG_CACHE_HOME", "XDG_RUNTIME_DIR")
+        shows = "; ".join(f'echo "${name}"' for name in names)
+        with mock.patch.dict(os.environ, {name: f"/of the user/{name}" for name in names}):
+            outcome = printed(["/bin/sh", "-c", shows], str(self.room))
+        wanted = ["/of the user/HOME", "/of the user/XDG_DATA_HOME", *[str(self.room)] * 3]
+        self.assertEqual(outcome.output.decode().splitlines(), wanted)
 
     def test_the_folder_of_a_browsers_socket(self) -> None:
         """The folder of the run, or `/tmp` where its path is too long for a socket."""

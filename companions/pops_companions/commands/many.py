@@ -25,6 +25,7 @@ from pops_companions.many.progress import Progress
 from pops_companions.many.running import Elsewhere, PartPrograms, Programs, Run
 from pops_companions.many.targets import Target
 from pops_companions.many.tasks import Input, Source, Tasks, tasks_of
+from pops_companions.many.unfinished import UnfinishedTarget
 from pops_companions.places import folder_above
 
 _FILES_TOLD = 3
@@ -72,9 +73,9 @@ def reports_of(
     def report(tasks: Tasks, path: Optional[str]) -> Report:
         second = None
         if settings.unfinished and limited:
-            second = Target(settings.unfinished, run)
+            second = UnfinishedTarget(settings.unfinished, run)
         elif path and limited:
-            second = Target(path + UNFINISHED, run, Links.REPLACED)
+            second = UnfinishedTarget(path + UNFINISHED, run, Links.REPLACED)
         return Report(tasks, Target(path, run, links) if path else None, second)
 
     if not settings.each:
@@ -150,6 +151,13 @@ def refuse_shared(read: Sequence[str], written: Sequence[str]) -> None:
             raise CommandError(Status.USAGE, f"{path} is named twice")
         if os.path.isfile(real) or not os.path.exists(real):
             taken.add(real)
+
+
+def refuse_foreign(reports: Sequence[Report]) -> None:
+    """Refuses a file of unfinished problems that pops-many didn't write: it would be removed."""
+    for report in reports:
+        if report.unfinished is not None and report.unfinished.is_foreign:
+            raise CommandError(Status.USAGE, report.unfinished.refusal)
 
 
 def is_cut_unasked(settings: Settings, tasks: Tasks) -> bool:
@@ -252,10 +260,13 @@ class Solving:
         settings = self._settings
         journal_path = path_of_journal(settings)
         name = name_of_run(journal_path, self._name)
-        index = Target(settings.index, name) if settings.index else None
-        files = Files(reports_of(settings, self._tasks, name), index)
-        beside = [journal_path, *[journal_path + UNFINISHED] * settings.split]
-        refuse_shared(settings.files, [file.path for file in files.targets] + beside)
+        reports = reports_of(settings, self._tasks, name)
+        if settings.split:
+            second = UnfinishedTarget(journal_path + UNFINISHED, name, Links.REPLACED)
+            reports = [it._replace(unfinished=it.unfinished or second) for it in reports]
+        files = Files(reports, Target(settings.index, name) if settings.index else None)
+        refuse_shared(settings.files, [*(file.path for file in files.targets), journal_path])
+        refuse_foreign(reports)
         elsewhere = elsewhere_of(settings, self._options, self._programs, self._progress)
         try:
             return self._solve(files, journal_path, output, elsewhere)
@@ -277,12 +288,7 @@ class Solving:
         except CommandError:
             journal.close(kept=settings.resume)
             raise
-        reports = files.reports
-        if settings.split:
-            name = name_of_run(journal_path, self._name)
-            second = Target(journal.path + UNFINISHED, name, Links.REPLACED)
-            reports = [it._replace(unfinished=it.unfinished or second) for it in reports]
-        return self._go(journal, Joined(journal, reports, output), files.table, elsewhere)
+        return self._go(journal, Joined(journal, files.reports, output), files.table, elsewhere)
 
     def _go(
         self, journal: Journal, joined: Joined, index: Optional[Target], where: Optional[Elsewhere]

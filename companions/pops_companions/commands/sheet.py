@@ -44,6 +44,8 @@ _MOST_IN_A_ROW = 8
 FORMS = ("html", "latex", "pdf", "text")
 # Chromium makes a socket below TMPDIR: `org.chromium.Chromium.` with six letters, `SingletonSocket`.
 LONGEST_ROOM = 62
+# Below these Chromium puts crash reports, fontconfig its cache, and dconf its state.
+WRITTEN_TO = ("CHROME_CONFIG_HOME", "XDG_CACHE_HOME", "XDG_RUNTIME_DIR")
 BROWSERS = ("chromium", "chromium-browser", "google-chrome")
 
 
@@ -315,10 +317,11 @@ def refuse_others(
 def printed(words: list[str], room: str) -> Outcome:
     """Runs Chromium, which leaves nothing outside its folder and is over with all its processes.
 
-    If the folder's path is too long for a socket, the socket is in `/tmp`.
+    If the folder's path is too long for a socket, the socket is in `/tmp`. HOME stays: the user's
+    fonts are there.
     """
     folder = room if len(os.fsencode(room)) <= LONGEST_ROOM else "/tmp"
-    environment = {**os.environ, "TMPDIR": folder}
+    environment = {**os.environ, "TMPDIR": folder, **dict.fromkeys(WRITTEN_TO, room)}
     # (without its input it never begins, should this process end before it is held)
     held = ["/bin/sh", "-c", 'read -r _ && exec "$@"', "sh", *words]
     child = ChildProcess(held, subprocess.PIPE, subprocess.PIPE, environment)

@@ -7,6 +7,7 @@ from typing import BinaryIO, NamedTuple, Optional
 from pops_companions.many.journal import Journal, Kept
 from pops_companions.many.targets import Target
 from pops_companions.many.tasks import Task, Tasks
+from pops_companions.many.unfinished import UnfinishedTarget
 from pops_companions.report import lines
 from pops_companions.tables import row_of
 
@@ -21,7 +22,7 @@ class Report(NamedTuple):
 
     tasks: Tasks
     file: Optional[Target]
-    unfinished: Optional[Target]
+    unfinished: Optional[UnfinishedTarget]
 
 
 def path_of_report(file: str, folder: Optional[str]) -> str:
@@ -97,7 +98,10 @@ class Joined:
         return not self._to_write
 
     def write_unfinished(self) -> list[str]:
-        """Writes what is kept of unfinished problems; returns the files. Older files are removed."""
+        """Writes what is kept of unfinished problems; returns the files. Older files are removed.
+
+        OSError if a file can't be written, or another program's file has got its name meanwhile.
+        """
         written = []
         for report in self._reports:
             if report.unfinished is None:
@@ -106,6 +110,8 @@ class Joined:
             if not tasks:
                 report.unfinished.remove()
                 continue
+            if report.unfinished.is_foreign:
+                raise FileExistsError(None, report.unfinished.refusal)
             with report.unfinished.opened() as file:
                 for task in tasks:
                     file.writelines(self._marked(task))

@@ -35,8 +35,3 @@ class Target:
         """The file, open for writing; one that fails leaves what stood there before."""
         with files.written_whole(self.path, self._temporary, self._links) as file:
             yield file
-
-    def remove(self) -> None:
-        """Removes the file where there is one."""
-        if os.path.isfile(self._real) or os.path.islink(self._real):
-            files.remove(self._real)
