@@ -400,6 +400,17 @@ class Judging(unittest.TestCase):
         self.assertEqual((outcome.status, outcome.error), (0, ""))
         self.assertIn("problem 1: sound", outcome.output.decode())
 
+    def test_a_damaged_journal_is_begun_anew(self) -> None:
+        for damage in (bytes(4096), b"no journal of pops-many\n"):
+            with self.subTest(damage=damage[:10]):
+                journal = self.unfinished() / "solutions.report.journal"
+                kept = journal.read_bytes()
+                journal.write_bytes(damage + kept[len(damage) :])
+                outcome = self.resumed()
+                self.assertEqual((outcome.status, outcome.error), (0, ""))
+                self.assertIn("problem 1: sound", outcome.output.decode())
+                (self.room / "well").unlink()
+
     def test_a_folder_that_cannot_be_locked(self) -> None:
         refused = OSError(errno.ENOLCK, "No locks available")
         with mock.patch("fcntl.flock", side_effect=refused):

@@ -65,9 +65,10 @@ def is_begun(path: str) -> bool:
     """Returns whether a journal is there and its first line is whole: otherwise it keeps nothing."""
     try:
         with open(path, "rb") as file:
-            return file.readline(_LONGEST_HEAD).endswith(b"\n")
+            line = file.readline(_LONGEST_HEAD)
     except FileNotFoundError:
         return False
+    return line.startswith(_ANY_HEAD) and line.endswith(b"\n")
 
 
 def _with_sum(head: bytes, report: Iterable[_Report]) -> bytes:

@@ -489,7 +489,7 @@ def whole_move(text: str, lead: str, half: int, side: Colour) -> Optional[Played
 def _board_of(lines_of_ranks: bytes) -> items.Board:
     """Returns the board of eight lines as `8 ........`."""
     text = lines_of_ranks.decode("ascii")
-    # (most ranks are like those of other boards)
+    # (other boards have most ranks too)
     return items.Board(tuple([intern(text[at : at + 8]) for at in range(2, len(text), 11)]))
 
 

@@ -150,7 +150,11 @@ class Work:
             words.append(f"--jobs={self._runs.jobs}")
         if self._runs.seconds is not None:
             words.append(f"--seconds={self._runs.seconds!r}")
-        words += [*["--resume"] * is_begun(str(journal)), "--", str(source)]
+        goes_on = is_begun(str(journal))
+        if not goes_on:
+            # (one whose first line is cut or damaged keeps nothing)
+            files.remove(str(journal))
+        words += [*["--resume"] * goes_on, "--", str(source)]
         said = io.StringIO()
         # (on a terminal it shows how far it is)
         shown: io.StringIO = _Renaming(sys.stderr, self.named) if sys.stderr.isatty() else said
