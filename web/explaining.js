@@ -1,6 +1,7 @@
 // @ts-check
 // Explains and mends the faults of a text, as pops-explain does: by its own code, translated (web/from_python.py), which counts bytes.
 import { companions } from './out/companions.js';
+import { atOnce } from './slices.js';
 import { lineAt, lineOf, problemsOf, remembered, wordsOf } from './text.js';
 
 const LONGEST_LINE = 160;
@@ -142,22 +143,27 @@ function refutationsIn(text) {
 }
 
 /**
- * Mends the faults of a problem, as many as can be; null if the first one can't. `line` is the first line that changes, or the number of
- * lines that are left; `asksForTries` says whether a word that was left out asks for tries or threats, `refutations` is the most of a try.
+ * Mends the faults of a problem, a step for each, as many as can be; null if the first one can't. `line` is the first line that changes,
+ * or the number of lines that are left; `asksForTries` says whether a word that was left out asks for tries or threats, `refutations` is
+ * the most of a try.
  * @param {string} text
  * @param {number} number
+ * @returns {Generator<void, Corrected & { line: number } | null>}
  */
-export function mendedProblem(text, number) {
+export function* mendProblem(text, number) {
   const { from, to, alone, place, start } = aloneOf(text, number);
   if (to - from > MOST_MENDED) return null;
   let bytes = bytesOf(alone);
   let asksForTries = false;
   for (let count = 0; count < MOST_EDITS; count++) {
     const read = companions.readNumber(bytes, place);
-    const edit = read?.number ? companions.editFor(bytes, place, read) : null;
+    if (!read?.number) break;
+    const said = companions.explanation(bytes, read);
+    const edit = companions.editFor(bytes, place, read, false, said);
     if (!edit) break;
-    asksForTries ||= ASKS_FOR_TRIES.test(companions.explanation(bytes, read).text);
+    asksForTries ||= ASKS_FOR_TRIES.test(said.text);
     bytes = edit.of(bytes);
+    yield;
   }
   const made = textOf(bytes);
   if (made === alone) return null;
@@ -166,3 +172,10 @@ export function mendedProblem(text, number) {
   const whole = text.slice(0, from) + made.slice(from - start) + text.slice(to);
   return { text: whole, asksForTries, refutations: asksForTries ? refutationsIn(alone) : 0, line: lineOf(whole, same + start) };
 }
+
+/**
+ * Mends the faults of a problem at once.
+ * @param {string} text
+ * @param {number} number
+ */
+export const mendedProblem = (text, number) => atOnce(mendProblem(text, number));

@@ -1,7 +1,7 @@
 // @ts-check
 // A fault as the page shows it: the lines at fault, with their words marked, and the explanation.
 import { madeWith, makeButton } from './elements.js';
-import { explain, markedLines, mendedProblem, shown } from './explaining.js';
+import { explain, markedLines, mendProblem, shown } from './explaining.js';
 import { sayFault } from './names.js';
 import { lineAt } from './text.js';
 import { say } from './words.js';
@@ -38,14 +38,11 @@ export const ownAdvice = advice => advice
   .replace(/`fen2pop [^`]*` makes a problem of it/, () => say('fenMakes'));
 
 /**
- * Draws the button that corrects a problem, with the first line that it changes; null if nothing can be corrected.
- * @param {string} text
- * @param {number} number
+ * Draws the button that corrects a problem, with the first line that it changes.
+ * @param {Corrected & { line: number }} made
  * @param {(made: Corrected) => void} take receives the corrected text
  */
-function mendingBox(text, number, take) {
-  const made = mendedProblem(text, number);
-  if (!made) return null;
+function mendingBox(made, take) {
   const box = document.createElement('div');
   const button = makeButton(say('correct'), () => take(made));
   button.textContent = say('correct');
@@ -56,24 +53,36 @@ function mendingBox(text, number, take) {
 }
 
 /**
- * Draws the fault of a problem: with the explanation of its word, or else with the manual's text about the fault.
+ * Draws the fault of a problem: with the explanation of its word, or else with the manual's text about the fault. What takes long is
+ * drawn in steps: the explanation, and after those of all other faults the button that corrects the problem.
  * @param {string} text the text of the report
- * @param {{ number: number, fault: { line: number, number: number, text: string } }} item
+ * @param {FaultyItem} item
  * @param {string} general what the manual says
- * @param {(line: number) => void} goToLine
- * @param {(made: Corrected) => void} take receives the corrected text
+ * @param {{ goToLine: (line: number) => void, take: (made: Corrected) => void }} acts `take` receives the corrected text
+ * @param {{ add: (steps: WorkSteps) => void }} work takes these steps
  */
-export function faultBox(text, item, general, goToLine, take) {
+export function faultBox(text, item, general, { goToLine, take }, work) {
   const { fault } = item;
-  const explanation = explain(text, item);
-  const marked = explanation?.marks.length ? markedLines(text, explanation.marks) : [bareLine(text, fault.line)];
   const label = say('goToLine', fault);
   const button = makeButton(label, () => goToLine(fault.line));
   button.textContent = label;
   const box = document.createElement('div');
   box.className = 'fault';
-  const mending = explanation && mendingBox(text, item.number, take);
-  box.append(madeWith('p', sayFault(fault)), ...marked.map(drawnLine), madeWith('p', ownAdvice(explanation?.text ?? general)));
-  box.append(...(mending ? [mending] : []), button);
+  box.append(madeWith('p', sayFault(fault)), button);
+  work.add(explaining());
   return box;
+
+  /** @returns {WorkSteps} */
+  function* explaining() {
+    const explanation = explain(text, item);
+    const marked = explanation?.marks.length ? markedLines(text, explanation.marks) : [bareLine(text, fault.line)];
+    button.before(...marked.map(drawnLine), madeWith('p', ownAdvice(explanation?.text ?? general)));
+    if (explanation) return mending();
+  }
+
+  /** @returns {WorkSteps} */
+  function* mending() {
+    const made = yield* mendProblem(text, item.number);
+    if (made) button.before(mendingBox(made, take));
+  }
 }

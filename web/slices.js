@@ -44,3 +44,63 @@ export function inSlices(length, steps, ended = () => {}) {
   slice();
   return () => clearTimeout(next);
 }
+
+/** Work of many parts, one after the other, in slices that they share. */
+export class Work {
+  constructor() {
+    /** @type {WorkSteps[]} */
+    this.waiting = [];
+    /** @type {WorkSteps[]} what comes after all that waits */
+    this.later = [];
+    this.end = 0;
+    this.isNewSlice = false;
+    /** @type {ReturnType<typeof setTimeout> | undefined} */
+    this.next = undefined;
+  }
+
+  /**
+   * Adds a part, which is begun now if the slice has time for it. The steps that it returns come after all other parts.
+   * @param {WorkSteps} steps
+   */
+  add(steps) {
+    this.waiting.push(steps);
+    if (this.next === undefined) this.beginSlice();
+    this.goOn();
+  }
+
+  /** Leaves all that isn't done. */
+  clear() {
+    clearTimeout(this.next);
+    this.next = undefined;
+    this.waiting = [];
+    this.later = [];
+  }
+
+  /** The parts of which the first one is next. */
+  get parts() {
+    return this.waiting.length ? this.waiting : this.later;
+  }
+
+  /** Begins a slice, in which one step at least is done, and after which the page has its turn. */
+  beginSlice() {
+    this.end = performance.now() + SLICE_MILLISECONDS;
+    this.isNewSlice = true;
+    this.next = setTimeout(() => {
+      this.next = undefined;
+      if (!this.parts.length) return;
+      this.beginSlice();
+      this.goOn();
+    });
+  }
+
+  goOn() {
+    while (this.parts.length && (this.isNewSlice || performance.now() < this.end)) {
+      this.isNewSlice = false;
+      const { parts } = this;
+      const { done, value } = parts[0].next();
+      if (!done) continue;
+      parts.shift();
+      if (value) this.later.push(value);
+    }
+  }
+}

@@ -7,7 +7,9 @@ import tempfile
 import unittest
 from collections.abc import Callable
 from pathlib import Path
+from unittest import mock
 
+from pops_companions.explain import mending
 from pops_companions.explain.mended_text import mend
 from pops_companions.explain.mending import further_faults
 from pops_companions.explain.notices import notices
@@ -393,6 +395,11 @@ class Further(unittest.TestCase):
         )
         wanted = ["3: 2: White:", "3: 14: Kg6,", "3: 2: Ta1", "4: 8: 2#", "5: 2: Variatons"]
         self.assertEqual(found, wanted)
+
+    def test_each_fault_is_explained_once(self) -> None:
+        with mock.patch.object(mending, "explanation", wraps=mending.explanation) as explanation:
+            found = self.found(PIECES, "Stipulation #1", *3 * ["Option Variatoin"])
+        self.assertEqual((len(found), explanation.call_count), (2, 3))
 
     def test_a_word_that_cannot_be_mended_is_passed_over(self) -> None:
         found = self.found(PIECES, "Condition Koeko", "Stipulation 2#", "Option Nothing")

@@ -34,6 +34,12 @@ export class Thing {
     this.append(...added);
   }
 
+  before(...added) {
+    const others = this.parent.children;
+    others.splice(others.indexOf(this), 0, ...added);
+    for (const it of added) if (it instanceof Thing) it.parent = this.parent;
+  }
+
   replaceWith(other) { this.parent?.children.splice(this.parent.children.indexOf(this), 1, other); }
   remove() { if (this.parent) this.parent.children = this.parent.children.filter(it => it !== this); }
   setAttribute(name, value) { this.attributes[name] = value; }

@@ -3,6 +3,7 @@ import assert from 'node:assert/strict';
 import { test } from 'node:test';
 import { fill, kept, keptInTab, made, paste, send } from '../helpers/page_document.mjs';
 import { sharedParts } from '../helpers/page_imports.mjs';
+import { withSlowClock } from '../helpers/slow_clock.mjs';
 
 const TEXT = 'BeginProblem\nPieces White Kg6 Ra1 Black Kg8\nStipulation #1\nEndProblem\n';
 const REPORT = 'problem 1\n#1\nplay\n1.Ra1-a8#\nsolutions: 1\n\n';
@@ -40,6 +41,7 @@ const { leave, showPlace } = await import('../../web/page/walk.js');
 const { fillPrint } = await import('../../web/printing.js');
 const { fragmentOf } = await import('../../web/store.js');
 const { blocksOf, menOf } = await import('../../web/text.js');
+const { Work } = await import('../../web/slices.js');
 const { sayFound } = await import('../../web/tree.js');
 const { imported } = await import('../../web/importing.js');
 const words = await import('../../web/words.js');
@@ -293,7 +295,7 @@ test('faults: marks at their lines, until the text changes', () => {
 });
 
 test('faults: the manual speaks where nothing else is known', () => {
-  const box = faultBox('a\n', { number: 1, fault: { line: 1, number: 20, text: 'x' } }, 'general', () => {});
+  const box = faultBox('a\n', { number: 1, fault: { line: 1, number: 20, text: 'x' } }, 'general', {}, new Work());
   assert.equal(box.textContent.includes('general'), true);
 });
 
@@ -575,38 +577,75 @@ test('solving: one button for one problem, two for several', () => {
   assert.deepEqual([element('solve').textContent, element('solveThis').hidden], ['Solve all', false]);
 });
 
-test('faults: corrected by a click, which switches tries on if an option asked for them', () => {
+/** Returns the button of the solutions with this name, once there is one. */
+async function buttonNamed(name) {
+  for (;;) {
+    const found = element('tree').querySelectorAll('button').find(it => it.textContent === name);
+    if (found) return found;
+    await new Promise(end => { setTimeout(end, 1); });
+  }
+}
+
+test('faults: corrected by a click, which switches tries on if an option asked for them', async () => {
   const text = TEXT.replace('End', 'Option Try Variation\nEnd');
   const good = TEXT.replace('End', 'Option Variation\nEnd');
   begin(text, 'problem 1\nline 4: fault 2: misplaced word\n\n');
-  const buttons = element('tree').querySelectorAll('button');
-  const press = name => buttons.find(it => it.textContent === name).onclick();
+  const [correct, convert] = [await buttonNamed('Correct it'), await buttonNamed('Convert the whole text')];
   assert.match(element('tree').textContent, /4 \| Option Variation/);
   element('tries').checked = false;
-  press('Correct it');
+  correct.onclick();
   assert.deepEqual([textNow(), element('tries').checked, element('most').hidden], [good, true, false]);
   assert.match(noteNow(), /^corrected, and “tries and threats” was switched on/);
-  press('Correct it');
+  correct.onclick();
   assert.match(noteNow(), /^the text was changed since/);
   goSteps(-1);
   element('tries').checked = false;
-  press('Convert the whole text');
+  convert.onclick();
   assert.deepEqual([textNow(), element('tries').checked], [good.replace('BeginProblem', 'BeginProblem\nRemark Try left out: pops-tries shows tries'), true]);
   element('tries').checked = false;
   showMost();
 });
 
-test('faults: a text typed after a byte order mark is corrected by a click, and one of Popeye converted', () => {
+test('faults: a text typed after a byte order mark is corrected by a click, and one of Popeye converted', async () => {
   const report = 'problem 1\nline 1: fault 1: BeginProblem expected\n\n';
   const pressed = name => element('tree').querySelectorAll('button').find(it => it.textContent === name);
   begin(`\ufeff${TEXT}`, report);
   assert.equal(pressed('Convert the whole text'), undefined);
-  pressed('Correct it').onclick();
+  (await buttonNamed('Correct it')).onclick();
   assert.equal(textNow(), TEXT);
   begin('\ufeffAnfangProblem\nSteine Weiss Kg6 Ta1 Schwarz Kg8\nForderung #1\nEndeProblem\n', report);
   pressed('Convert the whole text').onclick();
   assert.equal(textNow(), TEXT);
 });
+
+/** Returns how often a function does work of the companions by this name. */
+function callsOf(name, act) {
+  const own = companions[name];
+  let calls = 0;
+  companions[name] = (...given) => {
+    calls += 1;
+    return own(...given);
+  };
+  act();
+  companions[name] = own;
+  return calls;
+}
+
+test('faults: many are explained and corrected in slices, all explanations before the corrections', () => withSlowClock(pass => {
+  const text = `Begin${Array(4).fill(`Problem\nPieces White Kg6 Ra1 Black Kg8\nStipulation #1\n${'Option Variatoin\n'.repeat(5)}`).join('Next')}EndProblem\n`;
+  const report = [1, 2, 3, 4].map(it => `problem ${it}\nline ${4 + 8 * (it - 1)}: fault 2: misplaced word\n\n`).join('');
+  const count = said => element('tree').textContent.split(said).length - 1;
+  assert.ok(callsOf('readNumber', () => begin(text, report)) <= 1);
+  assert.deepEqual([count('misplaced word'), count('It looks like'), count(say('correct'))], [4, 1, 0]);
+  for (let passes = 0; passes < 40 && count(say('correct')) < 4; passes++) {
+    assert.ok(callsOf('readNumber', pass) <= 1);
+    if (count(say('correct'))) assert.equal(count('It looks like'), 4);
+  }
+  assert.equal(count(say('correct')), 4);
+  begin(text, report);
+  begin(TEXT, REPORT);
+  assert.equal(callsOf('readNumber', pass), 0);
+}));
 
 test('files: a text of Popeye pasted into the text box is converted, also with a byte order mark', () => {
   const popeye = '\ufeffAnfangProblem\nSteine Weiss Kg6 Ta1 Schwarz Kg8\nForderung #1\nEndeProblem\n';

@@ -3,8 +3,9 @@ import assert from 'node:assert/strict';
 import { readFileSync } from 'node:fs';
 import test from 'node:test';
 import { ReportReading, itemsOf } from '../../web/report.js';
-import { atOnce, inSlices, LONG_TEXT } from '../../web/slices.js';
+import { atOnce, inSlices, LONG_TEXT, Work } from '../../web/slices.js';
 import { blocksOf, readText, wordsOf } from '../../web/text.js';
+import { withSlowClock } from '../helpers/slow_clock.mjs';
 
 const turn = () => new Promise(go => { setTimeout(go, 1); });
 
@@ -47,6 +48,51 @@ test('slices: the result comes after the last one', async () => {
   while (!result) await turn();
   assert.equal(result, 3e7);
 });
+
+function* noting(seen, name, most, after) {
+  for (let count = 0; count < most; count++) {
+    seen.push(name);
+    yield;
+  }
+  return after;
+}
+
+test('work: its parts share the slices, and what a part returns comes after all others', () => withSlowClock(pass => {
+  const work = new Work();
+  const seen = [];
+  work.add(noting(seen, 'a', 1, noting(seen, 'c', 3)));
+  work.add(noting(seen, 'b', 2));
+  assert.deepEqual(seen, ['a']);
+  for (let passes = 0; passes < 8; passes++) {
+    const before = seen.length;
+    pass();
+    assert.ok(seen.length <= before + 1);
+  }
+  assert.deepEqual(seen, ['a', 'b', 'b', 'c', 'c', 'c']);
+}));
+
+test('work: what is left isn\'t done, and other work begins at once', () => withSlowClock(pass => {
+  const work = new Work();
+  const seen = [];
+  work.add(noting(seen, 'a', 9));
+  work.clear();
+  work.add(noting(seen, 'b', 2));
+  assert.deepEqual(seen, ['a', 'b']);
+  for (let passes = 0; passes < 3; passes++) pass();
+  assert.deepEqual(seen, ['a', 'b', 'b']);
+  work.add(noting(seen, 'c', 1));
+  assert.deepEqual(seen.slice(3), ['c']);
+}));
+
+test('work: a part that fails leaves the others', () => withSlowClock(pass => {
+  const work = new Work();
+  const seen = [];
+  function* failing() { throw new Error('no'); }
+  assert.throws(() => work.add(failing()), /no/);
+  work.add(noting(seen, 'a', 3));
+  for (let passes = 0; passes < 4; passes++) pass();
+  assert.equal(seen.length, 3);
+}));
 
 test('reading: a text that is read step by step has the same words and problems', () => {
   const text = readFileSync(new URL('../../examples/several_problems.pop', import.meta.url), 'utf8');

@@ -3,7 +3,7 @@
 import { element, makeButton, partText } from '../elements.js';
 import { faultBox } from '../faults.js';
 import { isOfAnother } from '../importing.js';
-import { LONG_TEXT } from '../slices.js';
+import { LONG_TEXT, Work } from '../slices.js';
 import { lineAt } from '../text.js';
 import { say } from '../words.js';
 import { doChore } from './beside.js';
@@ -13,6 +13,9 @@ const MARKED_FAULTS = 100;
 const LINE_PIXELS = 20;
 /** What takes a corrected text, and what converts the text. */
 const corrected = { take: (/** @type {Corrected} */ _) => {}, convert: () => {} };
+
+/** What explains the faults that are drawn, and corrects them. */
+export const faultWork = new Work();
 
 /** @type {(item: Item) => item is FaultyItem} */
 const hasFault = /** @type {any} */ ((/** @type {Item} */ item) => item.fault !== null);
@@ -106,7 +109,7 @@ export function whenCorrected(take, convert) {
  */
 export function drawnFault(item) {
   const general = JSON.parse(partText('fault-words'))[item.fault.number] ?? '';
-  const box = faultBox(state.solved, item, general, goToLine, made => corrected.take(made));
+  const box = faultBox(state.solved, item, general, { goToLine, take: made => corrected.take(made) }, faultWork);
   whenConvertible(state.solved, () => box.append(convertButton()));
   return box;
 }

@@ -5,7 +5,7 @@ import { menOfRanks } from '../position.js';
 import { inSlices } from '../slices.js';
 import { menOf } from '../text.js';
 import { showAge } from './age.js';
-import { drawnFault, markFaults } from './faults.js';
+import { drawnFault, faultWork, markFaults } from './faults.js';
 import { state } from './state.js';
 import { tree } from './views.js';
 
@@ -28,6 +28,7 @@ function diagramMen(item) {
 /** Draws the whole report. */
 export function drawReport() {
   endDrawing();
+  faultWork.clear();
   state.readReport();
   element('report').textContent = state.report;
   element('beginning').hidden = !state.isBeginning;

@@ -121,16 +121,21 @@ def read_number(text: bytes, number: int) -> Optional[Reading]:
 
 
 def edit_for(
-    text: bytes, number: int, reading: Reading, in_any_language: bool = False
+    text: bytes,
+    number: int,
+    reading: Reading,
+    in_any_language: bool = False,
+    known: Optional[Explanation] = None,
 ) -> Optional[Edit]:
     """Returns the edit that mends a problem's fault; None where the explanation names none.
 
-    `in_any_language` mends also where the men may have the letters of another language.
+    `in_any_language` mends also where the men may have the letters of another language; `known` is
+    the explanation, where the caller has it.
     """
     empty = _leaving_out(text, reading)
     if empty is not None:
         return empty
-    said = explanation(text, reading)
+    said = explanation(text, reading) if known is None else known
     if not in_any_language and _may_be_in_another_language(text, reading, said):
         return None
     left = 0 if reading.at is None else len(text) - reading.word.span.stop
@@ -371,13 +376,13 @@ def further_faults(text: bytes, pieces: Sequence[Piece], number: int) -> Iterato
             return
         if is_passed_over and reading.number in _AT_THE_END:
             return
+        said = explanation(near.text, reading)
         if fault > 0 and not (is_passed_over and reading.number is FaultKind.BEGIN_PROBLEM_MISSING):
-            said = explanation(near.text, reading)
             marks = tuple(map(back.span, said.marks))
             at = len(near.text) if reading.at is None else reading.word.start
             line = _line_of(text, pieces[number - 1], back.span(Span(at, at)).start)
             yield FurtherFault(number, reading.number, line, Explanation(said.text, marks))
-        edit = edit_for(near.text, near.number, reading, in_any_language=True)
+        edit = edit_for(near.text, near.number, reading, in_any_language=True, known=said)
         if edit is None:
             if reading.at is None or reading.number in _AT_THE_END:
                 return

@@ -318,13 +318,15 @@ def _nearness(word: str, name: str) -> float:
     if sorted(word) == sorted(small) and word != "".join(reversed(small)):
         return 1
     ends = range(max(3, len(word) - 1), min(len(small), len(word) + 1) + 1)
-    whole = _distance(word, small)
-    forms = [_distance(word, small[:end]) + 0.1 for end in ends if end < len(small)]
-    return min([whole, *forms])
+    distances = _distances(word, small)
+    forms = [distances[end] + 0.1 for end in ends if end < len(small)]
+    return min([distances[-1], *forms])
 
 
-def _distance(one: str, other: str) -> int:
-    """Letters put in, left out, changed or exchanged with a neighbour."""
+def _distances(one: str, other: str) -> list[int]:
+    """Letters put in, left out, changed or exchanged with a neighbour: for no letter of the other word,
+    its first one, its first two, and so on.
+    """
     rows: list[list[int]] = [list(range(len(other) + 1))]
     for i, a in enumerate(one, start=1):
         row = [i]
@@ -334,7 +336,7 @@ def _distance(one: str, other: str) -> int:
                 least = min(least, rows[-2][j - 2] + 1)
             row.append(least)
         rows.append(row)
-    return rows[-1][-1]
+    return rows[-1]
 
 
 def rest_of_a_text(case: Case) -> Optional[Explanation]:
