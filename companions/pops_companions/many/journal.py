@@ -1,10 +1,10 @@
 """The journal of a run: the reports of all its problems, in the order in which they came.
 
-Its first line is a fingerprint of the run's inputs and options, and one of pops. Each report follows a line with its
-task, status, length, and a checksum of all of it, so that a cut or changed record is noticed; an
-unfinished report's line also has the seconds that its run took. The reports of tasks in turn may be one record. Parts of a problem
-are kept in the same way, each with its phase, its number and the number of moves by which the problem
-was cut.
+Its first line is a fingerprint of the run's inputs and options, and one of pops. Each report follows
+a line with its task, status, length, and a checksum of all of it, so that a cut or changed record is
+noticed; an unfinished report's line also has the seconds that its run took. The reports of tasks in
+turn may be one record. Parts of a problem are kept in the same way, each with its phase, its number
+and the number of moves by which the problem was cut.
 """
 
 import fcntl
