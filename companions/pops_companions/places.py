@@ -59,6 +59,18 @@ def found(name: str) -> Optional[str]:
     return shutil.which(name)
 
 
+def fingerprint(program: str) -> str:
+    """Returns a checksum of a program; for one that can't be read, what changes with it."""
+    import hashlib
+    import stat
+
+    status = os.stat(program)
+    if stat.S_ISREG(status.st_mode) and os.access(program, os.R_OK):
+        with open(program, "rb") as file:
+            return hashlib.sha256(file.read()).hexdigest()
+    return f"{status.st_size} {status.st_mtime_ns}"
+
+
 def command(name: str) -> str:
     """Returns the path of another companion: in their folder, or where pip installed this one."""
     for folder in (COMPANIONS, folder_above(os.path.realpath(sys.argv[0]))):

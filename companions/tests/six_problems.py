@@ -12,6 +12,7 @@ from pathlib import Path
 
 from pops_companions.many import sessions
 from tests import support
+from tests.stand_ins import stand_in
 
 SIX = (
     b"BeginProblem"
@@ -23,8 +24,7 @@ SIX = (
 )
 
 # A program in the place of pops that notes each run, and does something else on one problem.
-_STAND_IN = """#!/bin/sh
-text=$(cat)
+_STAND_IN = """text=$(cat)
 echo run >> "{room}/runs"
 case $text in
   *"number 4"*) {then} ;;
@@ -90,10 +90,8 @@ class SixProblems(unittest.TestCase):
 
     def stand_in(self, then: str) -> str:
         """A program that does so on the fourth problem, and on all others what pops does."""
-        path = self.room / "stand_in"
-        path.write_text(_STAND_IN.format(room=self.room, then=then, pops=support.pops()))
-        path.chmod(0o755)
-        return str(path)
+        does = _STAND_IN.format(room=self.room, then=then, pops=support.pops())
+        return stand_in(self.room / "stand_in", does)
 
     def words(self, pops: str, *more: str) -> list[str]:
         return ["--pops", pops, "--jobs", "1", "-o", str(self.report), str(self.input), *more]
@@ -147,5 +145,5 @@ class SixProblems(unittest.TestCase):
 
     def files(self) -> list[str]:
         """What lies in the room beside the input and the stand-in."""
-        own = {"six.pop", "stand_in", "runs"}
+        own = {"six.pop", "stand_in", "stand_in.sh", "runs"}
         return sorted(path.name for path in self.room.iterdir() if path.name not in own)

@@ -6,6 +6,7 @@ from pops_companions.many.machines import PROBE
 from tests import parts_told, run_here, support
 from tests.shown_limit import limit_when_shown, shown
 from tests.six_problems import SixProblems
+from tests.stand_ins import stand_in
 
 # A helpmate of seven first moves, three of which have most solutions; its set play has nineteen.
 PROBLEM = b"""BeginProblem
@@ -17,8 +18,7 @@ EndProblem
 
 # In the place of pops: on the whole problem it is slow, and writes two solutions and no end. Nothing
 # of it writes on when it is ended.
-_POPS = """#!/bin/sh
-case "$*" in *--check*) exec {pops} "$@" ;; esac
+_POPS = """case "$*" in *--check*) exec {pops} "$@" ;; esac
 text=$(cat)
 case $text in *Pa7*) printf %s '{beginning}'; {shown}; exec sleep 6000 ;; esac
 {before}
@@ -65,7 +65,7 @@ class SplitRoom(SixProblems):
         lines = self.wanted.decode("ascii").splitlines(keepends=True)
         beginning = "".join(lines[:_LINES_OF_THE_BEGINNING])
         words = {"pops": support.pops(), "beginning": beginning, "before": before}
-        self.write("stand_in", _POPS.format(**words, shown=shown(self.room)))
+        stand_in(self.room / "stand_in", _POPS.format(**words, shown=shown(self.room)))
 
     def write(self, name: str, text: str) -> str:
         """Writes a program."""

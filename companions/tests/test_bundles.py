@@ -12,6 +12,7 @@ from pops_companions.many.machines import is_small, logins_of
 from pops_companions.many.tasks import Source, Task, Tasks, tasks_of
 from tests import run_here, support
 from tests.shown_limit import limit_when_shown, shown
+from tests.stand_ins import stand_in
 
 MATE = "Pieces White Kg6 Ra1 Black Kg8\nStipulation #1\n"
 LONG = "Pieces White Kb1 Pc2e2g2 Black Ke8 Ra8h8 Pa7c7e7g7h7\nStipulation h#6\n"
@@ -135,10 +136,7 @@ class Solved(unittest.TestCase):
         return run_here.companion("pops-many", *words, str(self.room / "x.pop"))
 
     def script(self, text: str) -> str:
-        path = self.room / "program"
-        path.write_text(f"#!/bin/sh\n{text}\n")
-        path.chmod(0o755)
-        return str(path)
+        return stand_in(self.room / "program", f"{text}\n")
 
     def test_the_same_report(self) -> None:
         text = input_of(*KINDS * 30)
@@ -203,7 +201,7 @@ class Solved(unittest.TestCase):
         self.assertEqual(report.read_bytes(), b"\n\n".join(items[:30] + items[31:]))
         mark = f"unfinished: stopped after 9 s ({self.room}/x.pop, line 62)\n\n".encode()
         self.assertEqual(rest.read_bytes(), b"problem 31\ntitle: Late\nline one\n" + mark)
-        words = ["-o", str(report), "--resume", "--pops", support.pops()]
+        words = ["-o", str(report), "--resume", "--pops", self.script(f"exec '{support.pops()}' \"$@\"")]
         self.assertEqual(self.many(text, *words).status, 0)
         self.assertEqual(report.read_bytes(), b"\n\n".join(items))
 
@@ -216,7 +214,7 @@ class Solved(unittest.TestCase):
         outcome = self.many(text, *words, "--seconds", "0.01", "--pops", never)
         self.assertEqual(outcome.status, 6, outcome.error)
         with steady():
-            outcome = self.many(text, *words, "--resume", "--pops", support.pops())
+            outcome = self.many(text, *words, "--resume", "--pops", self.script(f"exec '{support.pops()}' \"$@\""))
         self.assertEqual((outcome.status, outcome.error), (0, ""))
         self.assertEqual(report.read_bytes(), support.run([support.pops()], text).output)
 

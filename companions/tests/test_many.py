@@ -13,7 +13,7 @@ from unittest import mock
 
 from pops_companions.input.pieces import Rest, cut, rest_of
 from pops_companions.many.cutting import Pieces
-from pops_companions.many.journal import Journal
+from pops_companions.many.journal import Journal, Origin
 from pops_companions.many.progress import Progress, duration
 from pops_companions.many.tasks import Result, Source, Task
 from tests import made_inputs, support
@@ -234,7 +234,7 @@ class Interruptions(SixProblems):
         ]:
             with self.subTest(length=length):
                 self.journal.write_bytes(journal[:length])
-                self.assertEqual(self.many(support.pops(), "--resume"), (0, b"", ""))
+                self.assertEqual(self.many(self.stand_in(":"), "--resume"), (0, b"", ""))
                 self.assertEqual(self.report.read_bytes(), self.wanted)
 
     def test_a_changed_byte_in_a_journal_is_noticed(self) -> None:
@@ -242,7 +242,7 @@ class Interruptions(SixProblems):
         journal = bytearray(self.journal.read_bytes())
         journal[-5] ^= 1
         self.journal.write_bytes(bytes(journal))
-        self.assertEqual(self.many(support.pops(), "--resume"), (0, b"", ""))
+        self.assertEqual(self.many(self.stand_in(":"), "--resume"), (0, b"", ""))
         self.assertEqual(self.report.read_bytes(), self.wanted)
 
     def test_a_changed_digit_in_the_line_of_a_record_is_noticed(self) -> None:
@@ -251,14 +251,14 @@ class Interruptions(SixProblems):
         changed = journal.replace(b" status 0", b" status 1", 1).replace(b" status 0", b" status 1", 1)
         self.assertNotEqual(changed, journal)
         self.journal.write_bytes(changed)
-        self.assertEqual(self.many(support.pops(), "--resume"), (0, b"", ""))
+        self.assertEqual(self.many(self.stand_in(":"), "--resume"), (0, b"", ""))
         self.assertEqual(self.report.read_bytes(), self.wanted)
 
     def test_a_journal_of_another_version_is_refused(self) -> None:
         self.many(self.stand_in("kill -9 $$"))
-        journal = self.journal.read_bytes().replace(b"pops-many journal 2 ", b"pops-many journal 1 ")
+        journal = self.journal.read_bytes().replace(b"pops-many journal 3 ", b"pops-many journal 2 ")
         self.journal.write_bytes(journal)
-        outcome = self.many(support.pops(), "--resume")
+        outcome = self.many(self.stand_in(":"), "--resume")
         self.assertEqual(outcome.status, 2)
         self.assertIn(f"{self.journal} is of another version of pops-many: remove it", outcome.error)
         self.assertEqual(self.journal.read_bytes(), journal)
@@ -266,23 +266,40 @@ class Interruptions(SixProblems):
     def test_a_journal_in_which_two_records_have_one_task(self) -> None:
         """The first one counts; what only the second one has is solved again."""
         source = Source(None, b"")
-        journal = Journal(str(self.journal), b"run", False, 4, None)
+        journal = Journal(str(self.journal), Origin(b"run", b"pops"), False, 4, None)
         for place in (0, 1):
             text = b"problem 1\n\nproblem 2\n\n"
             journal.keep(Result(Task(place, source, None), 0, text, None, 2))
         journal.close(True)
-        again = Journal(str(self.journal), b"run", True, 4, None)
+        again = Journal(str(self.journal), Origin(b"run", b"pops"), True, 4, None)
         self.addCleanup(again.close, True)
         self.assertEqual([again.is_finished(place) for place in range(4)], [True, True, False, False])
         self.assertEqual(list(again.kept), [0])
 
     def test_another_runs_journal_is_refused(self) -> None:
         self.many(self.stand_in("kill -9 $$"))
-        self.assertEqual(self.many(support.pops(), "--resume", "--no-board").status, 2)
+        self.assertEqual(self.many(self.stand_in(":"), "--resume", "--no-board").status, 2)
         self.input.write_bytes(SIX.replace(b"Rb1", b"Rb2"))
-        outcome = self.many(support.pops(), "--resume")
+        outcome = self.many(self.stand_in(":"), "--resume")
         self.assertEqual(outcome.status, 2)
         self.assertIn("belongs to other problems or options", outcome.error)
+
+    def test_a_journal_of_another_pops_is_refused(self) -> None:
+        """It is another one by its bytes, wherever it is."""
+        pops = Path(self.stand_in("kill -9 $$"))
+        self.many(str(pops))
+        journal, text = self.journal.read_bytes(), pops.read_text()
+        self.stand_in(":")
+        said = "is of another pops: name that one with --pops, or remove it"
+        refused = (2, b"", f"pops-many: {self.journal} {said}\n")
+        self.assertEqual(self.many(support.pops(), "--resume"), refused)
+        pops.write_text(f"{text}\n")
+        self.assertEqual(self.many(str(pops), "--resume"), refused)
+        self.assertEqual(self.journal.read_bytes(), journal)
+        pops.write_text(text)
+        moved = pops.rename(self.room / "moved")
+        self.assertEqual(self.many(str(moved), "--resume"), (0, b"", ""))
+        self.assertEqual(self.report.read_bytes(), self.wanted)
 
     def test_without_an_output_file_the_reports_are_kept_too(self) -> None:
         words = ["--pops", self.stand_in("kill -9 $$"), "--jobs", "1", str(self.input)]
@@ -291,7 +308,7 @@ class Interruptions(SixProblems):
         self.assertEqual(outcome.output.count(b"solutions: 1\n"), 3)
         journal = outcome.error.split("--journal ")[1].strip()
         self.addCleanup(Path(journal).unlink, missing_ok=True)
-        words = ["--pops", support.pops(), "--resume", "--journal", journal, str(self.input)]
+        words = ["--pops", self.stand_in(":"), "--resume", "--journal", journal, str(self.input)]
         self.assertEqual(support.companion("pops-many", *words), (0, self.wanted, ""))
         self.assertFalse(os.path.exists(journal))
 

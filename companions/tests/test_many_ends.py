@@ -63,7 +63,7 @@ class Signals(SixProblems):
                 refused = self.many(support.pops())
                 self.assertEqual(refused.status, 2)
                 self.assertIn("is the journal of a run that stopped", refused.error)
-                self.assertEqual(self.many(support.pops(), "--resume"), (0, b"", ""))
+                self.assertEqual(self.many(self.stand_in(":"), "--resume"), (0, b"", ""))
                 self.assertEqual(self.report.read_bytes(), self.wanted)
                 self.report.unlink()
 
@@ -78,7 +78,7 @@ class Signals(SixProblems):
                 self.assertEqual(run.returncode, -sign)
                 self.wait_for_end(child)
                 self.assertEqual(self.files(), ["six.report.journal"])
-                self.assertEqual(self.many(support.pops(), "--resume"), (0, b"", ""))
+                self.assertEqual(self.many(self.stand_in(":"), "--resume"), (0, b"", ""))
                 self.assertEqual(self.report.read_bytes(), self.wanted)
                 self.report.unlink()
 
@@ -118,14 +118,14 @@ class Signals(SixProblems):
 
 class Journals(SixProblems):
     def test_resuming_without_a_journal_is_a_mistake(self) -> None:
-        outcome = self.many(support.pops(), "--resume")
+        outcome = self.many(self.stand_in(":"), "--resume")
         self.assertEqual(
             outcome,
             (3, b"", f"pops-many: cannot open {self.journal}: No such file or directory\n"),
         )
         self.assertEqual(self.files(), [])
         self.journal.write_bytes(b"no journal\n")
-        outcome = self.many(support.pops(), "--resume")
+        outcome = self.many(self.stand_in(":"), "--resume")
         self.assertEqual(
             outcome, (2, b"", f"pops-many: {self.journal} is no journal of pops-many\n")
         )
@@ -137,7 +137,7 @@ class Journals(SixProblems):
         head = self.journal.read_bytes().partition(b"\n")[0]
         for kept in (b"", head[:9]):
             self.journal.write_bytes(kept)
-            self.assertEqual(self.many(support.pops(), "--resume").status, 0)
+            self.assertEqual(self.many(self.stand_in(":"), "--resume").status, 0)
             self.assertEqual(self.files(), ["six.report"])
             (self.room / "six.report").unlink()
 
@@ -155,13 +155,13 @@ class Journals(SixProblems):
     def test_two_runs_never_share_a_journal(self) -> None:
         first = self.started(*self.words(self.stand_in("exec sleep 6000")))
         wait_for(lambda: self.kept() == 3)
-        outcome = self.many(support.pops(), "--resume")
+        outcome = self.many(self.stand_in(":"), "--resume")
         self.assertEqual(
             outcome, (2, b"", f"pops-many: {self.journal} is in use by another run\n")
         )
         first.send_signal(signal.SIGTERM)
         first.communicate(timeout=support.PATIENCE)
-        self.assertEqual(self.many(support.pops(), "--resume"), (0, b"", ""))
+        self.assertEqual(self.many(self.stand_in(":"), "--resume"), (0, b"", ""))
 
 
 # Watches a session, two of whose processes are in groups of their own, until it is killed.

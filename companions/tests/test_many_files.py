@@ -77,7 +77,7 @@ class Several(SixProblems):
         stopping = self.many(self.stand_in("kill -9 $$"), "--index", str(table))
         self.assertEqual(stopping.status, 6)
         self.assertEqual(self.files(), ["fau lty.in", "six.report.journal"])
-        self.assertEqual(self.many(support.pops(), "--index", str(table), "--resume").status, 0)
+        self.assertEqual(self.many(self.stand_in(":"), "--index", str(table), "--resume").status, 0)
         self.assertEqual(len(table.read_text().splitlines()), 7)
 
     def check_reports(self, paths: list[Path]) -> None:
@@ -101,7 +101,7 @@ class Several(SixProblems):
         self.assertEqual(stopping.status, 6)
         self.assertEqual([path.name for path in folder.iterdir()], ["fau lty.in.report"])
         self.assertTrue((self.room / "folder.journal").exists())
-        resumed = support.companion("pops-many", *words, support.pops(), "--resume")
+        resumed = support.companion("pops-many", *words, self.stand_in(":"), "--resume")
         self.assertEqual(resumed, (1, b"", ""))
         self.check_reports([folder / "six.report", folder / "fau lty.in.report"])
         self.assertFalse((self.room / "folder.journal").exists())

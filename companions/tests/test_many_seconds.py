@@ -138,7 +138,7 @@ class Seconds(SixProblems):
         self.assertIn(f"cannot write: {self.rest} isn't a file that pops-many wrote", outcome.error)
         self.assertEqual(self.rest.read_bytes(), b"mine\n")
         self.rest.unlink()
-        self.assertEqual(self.many(support.pops(), "--resume"), (0, b"", ""))
+        self.assertEqual(self.many(self.stand_in(":"), "--resume"), (0, b"", ""))
         self.assertEqual(self.report.read_bytes(), self.wanted)
         self.assertEqual(self.files(), ["six.report"])
 
@@ -155,7 +155,7 @@ class Seconds(SixProblems):
         self.assertEqual(self.runs(), 8)
         self.assertEqual(self.report.read_bytes(), self.others)
         self.assertEqual(self.rest.read_bytes(), self.marked(b"line one\nline two\n", b"3"))
-        self.assertEqual(self.many(support.pops(), "--resume"), (0, b"", ""))
+        self.assertEqual(self.many(self.stand_in(":"), "--resume"), (0, b"", ""))
         self.assertEqual(self.report.read_bytes(), self.wanted)
         self.assertEqual(self.files(), ["six.report"])
 
@@ -165,10 +165,10 @@ class Seconds(SixProblems):
         outcome = self.many_here(*words, self.slow())
         self.assertEqual((outcome.status, outcome.output), (6, self.others))
         self.assertEqual(self.rest.read_bytes(), self.marked(b"line one\nline two\n", b"3"))
-        again = self.many_here(*words, support.pops(), "--resume")
+        again = self.many_here(*words, self.stand_in(":"), "--resume")
         self.assertEqual((again.status, again.output), (6, self.others))
         words[words.index("3")] = "30"
-        last = self.many_here(*words, support.pops(), "--resume")
+        last = self.many_here(*words, self.stand_in(":"), "--resume")
         self.assertEqual(last, (0, self.wanted, ""))
         self.assertEqual(self.files(), [])
 

@@ -243,7 +243,7 @@ class Ends(SplitRoom):
                 self.assertIn("play-1", self.parts()[before:])
                 self.forget()
         self.interrupted(signal.SIGTERM)
-        words = ["--pops", support.pops(), "--resume", "-o", str(self.report), str(self.input)]
+        words = ["--pops", self.stand_in(":"), "--resume", "-o", str(self.report), str(self.input)]
         self.assertEqual(support.companion("pops-many", *words), (0, b"", ""))
         self.assertEqual(self.report.read_bytes(), self.wanted)
         self.assertEqual(self.files(), ["six.report"])

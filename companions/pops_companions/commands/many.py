@@ -7,7 +7,7 @@ from collections.abc import Sequence
 from contextlib import ExitStack
 from typing import BinaryIO, NamedTuple, Optional
 
-from pops_companions import command
+from pops_companions import command, places
 from pops_companions.command import CommandError, Status
 from pops_companions.commands.many_options import (
     NAME,
@@ -19,7 +19,7 @@ from pops_companions.commands.many_options import (
 )
 from pops_companions.files import Links
 from pops_companions.many.joining import Joined, Report, path_of_report, write_index
-from pops_companions.many.journal import Journal, JournalError, fingerprint
+from pops_companions.many.journal import Journal, JournalError, Origin, fingerprint
 from pops_companions.many.program import MissingError, Program, find, find_part_program
 from pops_companions.many.progress import Progress
 from pops_companions.many.running import Elsewhere, PartPrograms, Programs, Run
@@ -106,14 +106,14 @@ def path_of_journal(settings: Settings) -> str:
     return os.path.join(os.path.abspath(folder), f"{NAME}-{os.urandom(6).hex()}.journal")
 
 
-def open_journal(path: str, settings: Settings, run: bytes, tasks: int) -> Journal:
+def open_journal(path: str, settings: Settings, origin: Origin, tasks: int) -> Journal:
     """Returns the run's journal; that of a run that stopped isn't overwritten."""
     try:
         if settings.journal is None and settings.output is None:
             # (only its owner reads it)
             new = os.O_CREAT | os.O_EXCL | os.O_NOFOLLOW | os.O_CLOEXEC
             os.close(os.open(path, new, 0o600))
-        return Journal(path, run, settings.resume, tasks, settings.seconds)
+        return Journal(path, origin, settings.resume, tasks, settings.seconds)
     except JournalError as error:
         raise CommandError(Status.USAGE, str(error)) from None
     except OSError as error:
@@ -282,7 +282,9 @@ class Solving:
         elsewhere: Optional[Elsewhere],
     ) -> int:
         settings = self._settings
-        journal = open_journal(journal_path, settings, self._name, len(self._tasks))
+        pops = places.fingerprint(self._programs.whole.path).encode("ascii")
+        origin = Origin(self._name, pops)
+        journal = open_journal(journal_path, settings, origin, len(self._tasks))
         try:
             try_out(files.targets)
         except CommandError:

@@ -1,10 +1,10 @@
 """The journal of a run: the reports of all its problems, in the order in which they came.
 
-Its first line is a fingerprint of the run's inputs and options. Each report follows a line with its
-task, status, length, and a checksum of all of it, so that a cut or changed record is noticed; an
-unfinished report's line also has the seconds that its run took. The reports of tasks in turn may be one record. Parts of a problem
-are kept in the same way, each with its phase, its number and the number of moves by which the problem
-was cut.
+Its first line is a fingerprint of the run's inputs and options, and one of pops. Each report follows
+a line with its task, status, length, and a checksum of all of it, so that a cut or changed record is
+noticed; an unfinished report's line also has the seconds that its run took. The reports of tasks in
+turn may be one record. Parts of a problem are kept in the same way, each with its phase, its number
+and the number of moves by which the problem was cut.
 """
 
 import fcntl
@@ -25,7 +25,7 @@ if TYPE_CHECKING:
     from pops_companions.many.parts import Key, Part
 
 _ANY_HEAD = b"pops-many journal "
-_HEAD = _ANY_HEAD + b"2 "
+_HEAD = _ANY_HEAD + b"3 "
 _RECORD = re.compile(rb"task (\d+) status (\d+)(?: seconds (\d+\.\d+))? bytes (\d+)")
 _RECORD_OF_SOME = re.compile(rb"tasks (\d+) number (\d+) status (\d+) bytes (\d+)")
 _PART = re.compile(rb"part (\d+) (set|play) (\d+) depth (\d+) bytes (\d+)")
@@ -49,6 +49,13 @@ class Kept(NamedTuple):
     start: int
     length: int
     tasks: int = 1
+
+
+class Origin(NamedTuple):
+    """What the reports come from: fingerprints of the inputs with the options, and of pops."""
+
+    run: bytes
+    pops: bytes
 
 
 def fingerprint(sources: Sequence[Source], options: Sequence[str]) -> bytes:
@@ -92,7 +99,7 @@ class Journal:
     time limit of each problem.
     """
 
-    def __init__(self, path: str, run: bytes, resume: bool, tasks: int, seconds: Optional[float]):
+    def __init__(self, path: str, origin: Origin, resume: bool, tasks: int, seconds: Optional[float]):
         """Opens the journal. JournalError where it isn't there to be gone on with, or is another's.
 
         No other run opens it meanwhile.
@@ -104,7 +111,8 @@ class Journal:
         self.parts: dict[Key, Kept] = {}
         self._tasks = tasks
         self._seconds = seconds
-        self._head = _HEAD + run + b"\n"
+        self._origin = origin
+        self._head = b"%s%s %s\n" % (_HEAD, *origin)
         opened = os.open(path, _OPEN | (0 if resume else os.O_CREAT), 0o666)
         if not stat.S_ISREG(os.fstat(opened).st_mode):
             os.close(opened)
@@ -148,8 +156,12 @@ class Journal:
             raise JournalError(f"{self.path} is no journal of pops-many")
         if not head.startswith(_HEAD):
             raise JournalError(f"{self.path} is of another version of pops-many: remove it")
-        if head != self._head:
+        if not head.startswith(b"%s%s " % (_HEAD, self._origin.run)):
             raise JournalError(f"{self.path} belongs to other problems or options")
+        if head != self._head:
+            raise JournalError(
+                f"{self.path} is of another pops: name that one with --pops, or remove it"
+            )
         end = self._file.tell()
         while self._read_record():
             end = self._file.tell()

@@ -276,6 +276,7 @@ class Program(Runs):
 
     def __init__(self, path: str, options: Sequence[str], seconds: Optional[float]):
         super().__init__("pops", [path, *options])
+        self.path = path
         self.seconds = seconds
 
     def solve(self, task: Task) -> Result:

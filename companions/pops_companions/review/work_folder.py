@@ -17,7 +17,7 @@ from contextlib import suppress
 from pathlib import Path
 from typing import NoReturn, Optional
 
-from pops_companions import files
+from pops_companions import files, places
 from pops_companions.command import CommandError, Status
 
 _MARK = "pops-judge.mark"
@@ -52,11 +52,7 @@ def _described(program: Optional[str]) -> str:
     if program is None:
         return json.dumps([None, None])
     path = os.path.realpath(program)
-    status = os.stat(path)
-    version = f"{status.st_size} {status.st_mtime_ns}"
-    if stat.S_ISREG(status.st_mode) and os.access(path, os.R_OK):
-        version = hashlib.sha256(Path(path).read_bytes()).hexdigest()
-    return json.dumps([path, version])
+    return json.dumps([path, places.fingerprint(path)])
 
 
 def _difference(begun: list[str], now: list[str]) -> str:
