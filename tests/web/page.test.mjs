@@ -657,7 +657,7 @@ test('files: a text of Popeye pasted into the text box is converted, also with a
   assert.equal(textNow(), TEXT);
 });
 
-test('files: the number of refutations that a text asks for is set with the switch', () => {
+test('files: the number of refutations that a text asks for is set with the switch', async () => {
   const yaml = "algebraic:\n  white: [Kg6, Ra1]\n  black: [Kg8]\nstipulation: '#1'\noptions: [Defence 2, Variation]\n";
   const popeye = options => TEXT.replace('End', `Option ${options}\nEnd`);
   for (const [text, most] of [[popeye('Defence 3'), 3], [popeye('Defence 3 Try'), 3], [popeye('Try'), 1], [popeye('Threat'), 7], [yaml, 2]]) {
@@ -668,7 +668,7 @@ test('files: the number of refutations that a text asks for is set with the swit
     assert.equal(mostRefutations(), most);
   }
   begin(popeye('Defence 4'), 'problem 1\nline 4: fault 2: misplaced word\n\n');
-  element('tree').querySelectorAll('button').find(it => it.textContent === 'Correct it').onclick();
+  (await buttonNamed('Correct it')).onclick();
   assert.equal(mostRefutations(), 4);
   Object.assign(element('tries'), { checked: false });
   Object.assign(element('refutations'), { value: '' });
