@@ -54,7 +54,7 @@ function mendingBox(made, take) {
 
 /**
  * Draws the fault of a problem: with the explanation of its word, or else with the manual's text about the fault. What takes long is
- * drawn in steps: the explanation, and after those of all other faults the button that corrects the problem.
+ * drawn in steps: the explanation, and once all faults are explained the button that corrects the problem.
  * @param {string} text the text of the report
  * @param {FaultyItem} item
  * @param {string} general what the manual says
