@@ -10,6 +10,7 @@ from pathlib import Path
 from unittest import mock
 
 from pops_companions.explain import mending
+from pops_companions.explain.explaining import explanation
 from pops_companions.explain.mended_text import mend
 from pops_companions.explain.mending import further_faults
 from pops_companions.explain.notices import notices
@@ -397,9 +398,9 @@ class Further(unittest.TestCase):
         self.assertEqual(found, wanted)
 
     def test_each_fault_is_explained_once(self) -> None:
-        with mock.patch.object(mending, "explanation", wraps=mending.explanation) as explanation:
+        with mock.patch.object(mending, "explanation", wraps=explanation) as made:
             found = self.found(PIECES, "Stipulation #1", *3 * ["Option Variatoin"])
-        self.assertEqual((len(found), explanation.call_count), (2, 3))
+        self.assertEqual((len(found), made.call_count), (2, 3))
 
     def test_a_word_that_cannot_be_mended_is_passed_over(self) -> None:
         found = self.found(PIECES, "Condition Koeko", "Stipulation 2#", "Option Nothing")
