@@ -5,7 +5,7 @@ _pops_options() {
   local own
   case $1 in
     pops) echo --check --no-board; return ;;
-    pops-part) echo --list --depth --item --phase --part; return ;;
+    pops-part) echo --list --depth --item --phase --part --faults; return ;;
     pops-tries) echo --check --no-board --refutations; return ;;
     fen2pop)
       own='--file --stipulation --title --author --condition --set-play --variation --no-board --max-solutions

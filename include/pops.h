@@ -76,6 +76,13 @@ uint32_t pops_tries(bool no_board, uint32_t refutations, const uint8_t *input, s
 uint32_t pops_list(size_t depth, const uint8_t *input, size_t input_length, uint8_t *output, size_t output_length,
                    size_t *written);
 
+/* Writes a line for each faulty problem, as `pops-part --faults` does: its number, the fault with its line, and
+ * the bytes of the input where it is found, counted from 0, the last number one past their end.
+ *
+ * Returns what pops_report returns. */
+uint32_t pops_faults(const uint8_t *input, size_t input_length, uint8_t *output, size_t output_length,
+                     size_t *written);
+
 /* Writes the solutions of one part of the input's first problem, and their number.
  *
  * Parts are counted from 1, those of the set play with `set_play`; `depth` is that of pops_list.

@@ -8,7 +8,7 @@ import { givenOf } from './outputs.js';
 import { goToProblem } from './page/editing.js';
 import { blockNow, textNow } from './page/state.js';
 import { inSlices } from './slices.js';
-import { blocksOf, CONDITIONS, fieldsOf, isShort, menOf, sidesOf, valueOf } from './text.js';
+import { blocksOf, CONDITIONS, fieldsOf, isShort, menOf, readProblem, sidesOf, valueOf } from './text.js';
 import { say } from './words.js';
 
 const LONGEST_NAME = 60;
@@ -102,6 +102,7 @@ function* shownContents(text) {
   /** @type {string[]} */
   const names = [];
   for (const block of blocksOf(text)) {
+    yield* readProblem(text, block);
     const problem = contentOf(text, block);
     contents.push(problem);
     names.push(nameOfProblem(problem));

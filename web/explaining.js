@@ -1,12 +1,15 @@
 // @ts-check
 // Explains and mends the faults of a text, as pops-explain does: by its own code, translated (web/from_python.py), which counts bytes.
+import { UTF8 } from './codecs.js';
 import { companions } from './out/companions.js';
 import { atOnce } from './slices.js';
-import { lineAt, lineOf, problemsOf, remembered, wordsOf } from './text.js';
+import { lineAt, lineOf, problemsOf, readNumbered, remembered, wordsOf } from './text.js';
 
 const LONGEST_LINE = 160;
 const ROOM_BEFORE = 60;
 const MOST_EDITS = 50;
+// A longer problem is explained in several steps.
+const MOST_AT_ONCE = 10000;
 // A longer problem isn't mended.
 const MOST_MENDED = 20000;
 // A problem is read up to here; a fault that comes later isn't explained.
@@ -40,6 +43,23 @@ export function faultsOf(text) {
   });
 }
 
+/**
+ * Returns where the engine finds the faults of a text, by the numbers of the problems; its list counts bytes.
+ * @param {string} text
+ * @param {string} list
+ */
+export function placesOf(text, list) {
+  const bytes = UTF8.encode(text);
+  let [place, passed] = [0, 0];
+  const placeOf = (/** @type {string} */ byte) => {
+    place += UTF8.decode(bytes.subarray(passed, Number(byte))).length;
+    passed = Number(byte);
+    return place;
+  };
+  const lines = list.matchAll(/^(\d+): .* bytes (\d+) up to (\d+)$/gm);
+  return new Map(Array.from(lines, ([, number, from, to]) => [Number(number), { from: placeOf(from), to: placeOf(to) }]));
+}
+
 /** @param {string} bytes @param {any} read */
 const lineOfFault = (bytes, read) => (read.at === null ? bytes.split('\n').length : read.word.line);
 
@@ -52,26 +72,51 @@ const lineOfFault = (bytes, read) => (read.at === null ? bytes.split('\n').lengt
 export function explanationOf(text, read) {
   const bytes = allBytesOf(text);
   const said = companions.explanation(bytes, read);
-  const placeOf = (/** @type {number} */ place) => textOf(bytes.slice(0, place)).length;
-  return { text: said.text, marks: said.marks.map((/** @type {any} */ mark) => ({ from: placeOf(mark.start), to: placeOf(mark.stop) })) };
+  return { text: said.text, marks: said.marks.map((/** @type {any} */ mark) => spanIn(text, bytes, mark)) };
 }
 
 /**
- * Explains the fault of a problem of a text; returns null if this reading finds another fault than the report.
+ * Returns some bytes of a text as a part of it.
  * @param {string} text
- * @param {{ number: number, fault: { line: number, number: number } }} item
- * @returns {Explanation | null}
+ * @param {string} bytes
+ * @param {{ start: number, stop: number }} span
+ * @returns {Span}
  */
-export function explain(text, { number, fault }) {
+function spanIn(text, bytes, { start, stop }) {
+  const placeOf = (/** @type {number} */ place) => (bytes === text ? place : textOf(bytes.slice(0, place)).length);
+  return { from: placeOf(start), to: placeOf(stop) };
+}
+
+/**
+ * Explains the fault of a problem of a text step by step; the result is null if this reading finds another fault than the report, or finds
+ * it in another place than the engine.
+ * @param {string} text
+ * @param {{ number: number, fault: { line: number, number: number }, place?: Span }} item
+ * @returns {Generator<void, Explanation | null>}
+ */
+export function* explainFault(text, { number, fault, place: known }) {
+  yield* readNumbered(text);
   const { from, to, alone, place, start } = aloneOf(text, number);
+  const isLong = alone.length > MOST_AT_ONCE;
   const bytes = allBytesOf(alone);
+  if (isLong) yield;
   const read = companions.readNumber(bytes, place);
+  if (isLong) yield;
   const line = read && lineOfFault(bytes, read) + lineOf(text, from) - 1;
   const isCut = start + alone.length < to && read?.at !== null && read?.word.span.stop === bytes.length;
   if (read?.number?.value !== fault.number || line !== fault.line || isCut) return null;
+  const own = known && spanIn(alone, bytes, read.at === null ? { start: bytes.length, stop: bytes.length } : read.word.span);
+  if (own && (own.from + start !== known.from || own.to + start !== known.to)) return null;
   const said = explanationOf(alone, read);
   return { text: said.text, marks: said.marks.map(mark => ({ from: mark.from + start, to: mark.to + start })) };
 }
+
+/**
+ * Explains the fault of a problem of a text at once.
+ * @param {string} text
+ * @param {{ number: number, fault: { line: number, number: number } }} item
+ */
+export const explain = (text, item) => atOnce(explainFault(text, item));
 
 /**
  * Returns a problem as a text of its own, up to a limit, with the word that closes the problem before it: where its words begin and end in

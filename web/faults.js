@@ -1,7 +1,7 @@
 // @ts-check
 // A fault as the page shows it: the lines at fault, with their words marked, and the explanation.
 import { madeWith, makeButton } from './elements.js';
-import { explain, markedLines, mendProblem, shown } from './explaining.js';
+import { explainFault, markedLines, mendProblem, shown } from './explaining.js';
 import { sayFault } from './names.js';
 import { lineAt } from './text.js';
 import { say } from './words.js';
@@ -56,7 +56,7 @@ function mendingBox(made, take) {
  * Draws the fault of a problem: with the explanation of its word, or else with the manual's text about the fault. What takes long is
  * drawn in steps: the explanation, and once all faults are explained the button that corrects the problem.
  * @param {string} text the text of the report
- * @param {FaultyItem} item
+ * @param {FaultyItem & { place?: Span }} item with the place where the engine finds the fault, if that is known
  * @param {string} general what the manual says
  * @param {{ goToLine: (line: number) => void, take: (made: Corrected) => void }} acts `take` receives the corrected text
  * @param {{ add: (steps: WorkSteps) => void }} work takes these steps
@@ -74,7 +74,7 @@ export function faultBox(text, item, general, { goToLine, take }, work) {
 
   /** @returns {WorkSteps} */
   function* explaining() {
-    const explanation = explain(text, item);
+    const explanation = yield* explainFault(text, item);
     const marked = explanation?.marks.length ? markedLines(text, explanation.marks) : [bareLine(text, fault.line)];
     button.before(...marked.map(drawnLine), madeWith('p', ownAdvice(explanation?.text ?? general)));
     if (explanation) return mending();

@@ -22,6 +22,7 @@ MADE = f"{HERE}/out/companions.js"
 # What the page uses, by module; JavaScript exports it by these names.
 PARTS = {
     "pops_companions.chess.attacks": ("attackers",),
+    "pops_companions.chess.game_counts": ("impossible",),
     "pops_companions.chess.men": ("Colour", "Kind", "Man", "Square"),
     "pops_companions.chess.stipulation": ("Condition", "Stipulation"),
     "pops_companions.explain.characters": ("decoded", "shown"),
@@ -29,7 +30,7 @@ PARTS = {
     "pops_companions.explain.sentences": ("DATA", "sentence"),
     "pops_companions.explain.mending": ("edit_for", "read_number"),
     "pops_companions.explain.vocabulary": ("foreign", "unread"),
-    "pops_companions.export.problems": ("Exported", "joined", "read_problems"),
+    "pops_companions.export.problems": ("joined", "read_problems"),
     "pops_companions.export.yaml_form": ("yaml_of",),
     "pops_companions.import_.options": ("option_left_out",),
     "pops_companions.import_.popeye": ("begins", "read_popeye"),
@@ -61,7 +62,7 @@ BY_HAND = {
     "pops_companions.sheet.latex_commands": "../letters.js",
 }
 PACKAGE = "pops_companions"
-# The module whose function returns a table of JSON, which becomes part of the script.
+# The module whose functions return a table of JSON or a text, which becomes part of the script.
 STORED = f"{PACKAGE}.stored"
 RESERVED = frozenset("case default new function var delete this switch void with const let export enum super".split())
 # Methods of Python's own types, which web/python.js has as functions.
@@ -436,9 +437,9 @@ class Writer:
     def value_Call(self, node: ast.Call) -> str:
         function = node.func
         place = self.place_of(function)
-        if place == (STORED, "stored") and isinstance(node.args[0], ast.Constant):
+        if place and place[0] == STORED and isinstance(node.args[0], ast.Constant):
             with open(f"{COMPANIONS}/{PACKAGE}/{node.args[0].value}", encoding="utf-8") as file:
-                return json.dumps(json.load(file), ensure_ascii=False)
+                return json.dumps(json.load(file) if place[1] == "stored" else file.read(), ensure_ascii=False)
         definition = self.program.definition(place)
         if isinstance(definition, ast.ClassDef):
             bases = {ast.unparse(it) for it in definition.bases}

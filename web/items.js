@@ -19,6 +19,16 @@ const nodesOf = rows => rows.filter(it => !it.word).map(({ moves: [move], below 
  */
 export const knownMen = men => new companions.Board(ranksOf(men)).men;
 
+/**
+ * Returns the counts of a side that no game from the initial array can have, as [3, 'Q', ''] and [8, 'P', '']; a count of all its men has no
+ * kind.
+ * @param {Men} men
+ * @param {Colour} colour
+ * @returns {[number, string, string][]}
+ */
+export const impossibleCounts = (men, colour) => companions.impossible(knownMen(men), knownSide(colour))
+  .map((/** @type {any} */ { number, kind, shade }) => [number, kind?.value ?? '', shade]);
+
 /** @param {Phase} phase */
 function totalOf({ count, isStopped, solutions }) {
   return count === null ? new companions.Total(solutions.filter(it => it.level === 0).length, true) : new companions.Total(count, Boolean(isStopped));

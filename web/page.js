@@ -6,8 +6,9 @@ import { showContents } from './contents.js';
 import { element, makeButton, partText } from './elements.js';
 import { makeProblem, move, solveFromHere, togglePlaying } from './line.js';
 import { showAge } from './page/age.js';
+import { listenToArea, sayPart, showText } from './page/area.js';
 import {
-  addProblem, change, changeBoard, fenWritten, goSteps, goToProblem, joinTail, keepText, placed, showProblem,
+  addProblem, change, changeBoard, fenWritten, goSteps, goToProblem, joinTail, keepText, placed, setText, showProblem,
   showTail, takeCorrected, takeText, typed,
 } from './page/editing.js';
 import { placeMarks, whenCorrected } from './page/faults.js';
@@ -16,13 +17,14 @@ import { listenToFiles } from './page/files.js';
 import { whenKept } from './page/keeping.js';
 import { forgetAll, showKept } from './page/kept.js';
 import { OUTS } from './page/outs.js';
+import { showMoreReport } from './page/reporting.js';
 import { buildLive, liveChanged } from './page/live.js';
 import { loadEngine, showMost, showSaid, showSolve, solve, solveThis, stopSolving } from './page/solving.js';
 import { state, textNow } from './page/state.js';
 import { keep, kept } from './page/storage.js';
 import { buildSwitches } from './page/switches.js';
 import { board, buildViews, note, notes, tree } from './page/views.js';
-import { beginVisit, drawVisit, openLink, storeVisit } from './page/visit.js';
+import { askToStay, beginVisit, drawVisit, openLink, sayUnkept, storeVisit } from './page/visit.js';
 import { goBack, leave, showPlace } from './page/walk.js';
 import { fillPrint } from './printing.js';
 import { language, LANGUAGES, say, speak } from './words.js';
@@ -106,6 +108,7 @@ function listen() {
   area.onclick = placed;
   area.onkeyup = placed;
   area.onscroll = placeMarks;
+  listenToArea(() => setText(''));
   element('next').onclick = addProblem;
   element('problems').onchange = () => goToProblem(Number(element('problems').value));
   element('solve').onclick = () => solve();
@@ -116,11 +119,13 @@ function listen() {
   element('fen').oninput = () => notes.check();
   element('fen').onchange = fenWritten;
   element('join').onclick = joinTail;
+  element('moreReport').onclick = showMoreReport;
   addEventListener('keydown', keyPressed);
   addEventListener('click', clicked, true);
   addEventListener('beforeprint', fillPrint);
   addEventListener('hashchange', openLink);
   addEventListener('pagehide', storeVisit);
+  addEventListener('beforeunload', askToStay);
   document.addEventListener('visibilitychange', () => document.visibilityState === 'hidden' && storeVisit());
   listenToFiles();
 }
@@ -145,8 +150,8 @@ function begin() {
   buildFields();
   buildViews({ change, move }, showPlace);
   if (kept('pops.flipped')) flipBoard();
-  element('text').value = beginVisit();
-  state.addFollowers(showProblem, showFields, showContents, showTail, keepText, showAge, showSaid, showSolve, liveChanged, () => notes.check());
+  showText(beginVisit());
+  state.addFollowers(showProblem, showFields, showContents, showTail, sayPart, keepText, showAge, showSaid, showSolve, liveChanged, () => notes.check());
   listen();
   buildSwitches();
   buildLive();
@@ -154,6 +159,7 @@ function begin() {
   showMost();
   whenKept(showKept);
   showKept();
+  state.addFollowers(sayUnkept);
   drawVisit();
   state.follow();
   openLink();

@@ -64,33 +64,6 @@ export function exchanged(men) {
 /** @param {Men} men @param {Colour} colour */
 export const countOf = (men, colour) => [...men.values()].filter(man => man[0] === colour).length;
 
-/** The kinds of men, with how many a side begins with; bishops are counted by the colour of their squares. */
-const BEGUN = [['Q', 1, ''], ['R', 2, ''], ['S', 2, ''], ['B', 1, 'dark'], ['B', 1, 'light']];
-
-/**
- * Returns the counts of a side that no game from the initial array can have, as [3, 'Q', ''] and [8, 'P', '']; a count of all
- * its men has no kind. Each man too many of a kind is a promoted pawn; beside fairy men none is counted.
- * @param {Men} men @param {Colour} colour
- * @returns {[number, string, string][]}
- */
-export function impossibleCounts(men, colour) {
-  const own = [...men].filter(([, man]) => man[0] === colour);
-  /** @param {Square} square */
-  const shade = square => (placeOf(square)[0] + placeOf(square)[1]) % 2 ? 'light' : 'dark';
-  /** @param {string} kind @param {string} [on] */
-  const number = (kind, on) => own.filter(([square, man]) => man[1] === kind && (!on || shade(square) === on)).length;
-  /** @type {[number, string, string][]} */
-  const found = own.length > 16 ? [[own.length, '', '']] : [];
-  const pawns = number('P');
-  if (pawns > 8) return [...found, [pawns, 'P', '']];
-  if (number('G') || number('N')) return found;
-  const many = BEGUN.map(([kind, begun, on]) => /** @type {[number, string, string, number]} */ (
-    [number(String(kind), String(on)), kind, on, number(String(kind), String(on)) - Number(begun)])).filter(it => it[3] > 0);
-  if (many.reduce((sum, it) => sum + it[3], 0) <= 8 - pawns) return found;
-  for (const [count, kind, on] of many) found.push([count, kind, on]);
-  return pawns ? [...found, [pawns, 'P', '']] : found;
-}
-
 /**
  * Writes the eight ranks of a board as a report prints them, rank 8 first.
  * @param {Men} men
@@ -124,11 +97,9 @@ export function fenOf({ men, turn, barred, crossed }) {
 
 /** @param {Men} men */
 function placementOf(men) {
-  /** @param {Man | undefined} man */
-  const letter = man => (man ? (man[0] === 'w' ? FEN_LETTERS[man[1]] : FEN_LETTERS[man[1]].toLowerCase()) : '.');
-  /** @param {string} rank */
-  const row = rank => [...FILES].map(file => letter(men.get(file + rank))).join('');
-  return [...'87654321'].map(rank => row(rank).replace(/\.+/g, points => String(points.length))).join('/');
+  /** @param {string} letter */
+  const fenLetter = letter => FEN_LETTERS[letter] ?? FEN_LETTERS[letter.toUpperCase()].toLowerCase();
+  return ranksOf(men).map(row => row.replace(/[a-z]/gi, fenLetter).replace(/\.+/g, points => String(points.length))).join('/');
 }
 
 /** @type {(men: Men, right: string) => boolean} */

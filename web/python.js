@@ -17,9 +17,12 @@ export const py = (() => {
   /** Returns a number for an object, always the same. */
   const numberOf = it => numbers.get(it) ?? (numbers.set(it, ++most), most);
 
+  // An apostrophe and a bracket.
+  const SIGNS_OF_KEYS = new Set([0x27, 0x28]);
   /** Returns what stands for a value as a key: equal values have the same. */
   function keyOf(it) {
-    if (typeof it === 'string') return `'${it}`;
+    // (a text that could be the key of something else gets a sign in front; others are themselves, which takes no time)
+    if (typeof it === 'string') return SIGNS_OF_KEYS.has(it.charCodeAt(0)) ? `'${it}` : it;
     if (it === null || typeof it !== 'object') return it;
     if (!(it instanceof Record) && !Array.isArray(it)) return it;
     let key = '(';
@@ -152,6 +155,7 @@ export const py = (() => {
     });
   }
 
+  const NO_GROUPS = {};
   class Pattern {
     constructor(text, flags) {
       const isFolded = (flags & IGNORECASE) !== 0 || text.startsWith('(?i)');
@@ -166,8 +170,8 @@ export const py = (() => {
     found(text, from, to, mark, whole) {
       const pattern = (this.made[mark + whole] ??= new RegExp(whole ? `(?:${this.text})$` : this.text, mark + this.flags));
       pattern.lastIndex = from;
-      const found = pattern.exec(to === undefined ? text : text.slice(0, to));
-      return found && new Match(found, found.groups ?? {});
+      const found = pattern.exec(to === undefined || to === text.length ? text : text.slice(0, to));
+      return found && new Match(found, found.groups ?? NO_GROUPS);
     }
 
     /** Tries the pattern where each line begins. */
@@ -286,22 +290,40 @@ export const py = (() => {
     return all;
   }
 
-  const isAscii = text => /^[\0-\x7f]*$/.test(text);
+  function bytesOf(text) {
+    const bytes = new Uint8Array(text.length);
+    for (let at = 0; at < text.length; at++) bytes[at] = text.charCodeAt(at);
+    return bytes;
+  }
+
+  const isAscii = text => !/[^\0-\x7f]/.test(text);
   function decode(text, coding, errors = 'strict') {
     if (coding === 'latin-1' || !coding.startsWith('utf-16') && isAscii(text)) return text;
     if (coding === 'ascii') throw new UnicodeDecodeError('no ASCII');
     const known = { 'utf-16': text.startsWith('\xfe\xff') ? 'utf-16be' : 'utf-16le', 'utf-16-le': 'utf-16le', 'utf-16-be': 'utf-16be' }[coding];
     try {
       const decoder = new TextDecoder(known ?? 'utf-8', { fatal: errors === 'strict', ignoreBOM: coding !== 'utf-16' });
-      return decoder.decode(Uint8Array.from(text, letter => letter.charCodeAt(0))).replaceAll(errors === 'ignore' ? '\ufffd' : '', '');
+      const said = decoder.decode(bytesOf(text));
+      return errors === 'ignore' ? said.replaceAll('\ufffd', '') : said;
     } catch {
       throw new UnicodeDecodeError(`no ${coding}`);
     }
   }
 
+  // The most arguments of a call that every JavaScript takes.
+  const MOST_ARGUMENTS = 8192;
   function encode(text, coding) {
     if (coding !== 'utf-8' || isAscii(text)) return text;
-    return Array.from(new TextEncoder().encode(text), byte => String.fromCharCode(byte)).join('');
+    const bytes = new TextEncoder().encode(text);
+    const parts = [];
+    for (let at = 0; at < bytes.length; at += MOST_ARGUMENTS) parts.push(String.fromCharCode(...bytes.subarray(at, at + MOST_ARGUMENTS)));
+    return parts.join('');
+  }
+
+  function countOf(text, one) {
+    let count = 0;
+    for (let at = text.indexOf(one); at >= 0; at = text.indexOf(one, at + one.length)) count++;
+    return count;
   }
 
   /** Counts the letters at an end of a text that are among some signs, from a place on by steps. */
@@ -371,7 +393,7 @@ export const py = (() => {
     abs: Math.abs, int: Number, ord: letter => letter.codePointAt(0), chr: String.fromCodePoint, repr: it => `'${it}'`,
     fields: it => (it instanceof Dict ? Object.fromEntries(items(it)) : it),
     append: (all, it) => { all.push(it); },
-    count: (all, one, from = 0, to = Infinity) => (typeof all === 'string' ? all.slice(from, to).split(one).length - 1 : all.filter(it => eq(it, one)).length),
+    count: (all, one, from = 0, to = Infinity) => (typeof all === 'string' ? countOf(all.slice(from, to), one) : all.filter(it => eq(it, one)).length),
     index: (all, one) => (typeof all === 'string' ? all.indexOf(one) : all.findIndex(it => eq(it, one))),
     find: (text, one, from = 0, to = Infinity) => text.slice(0, to).indexOf(one, from),
     rfind: (text, one, from = 0, to = Infinity) => { const place = text.slice(0, to).lastIndexOf(one); return place < from ? -1 : place; },

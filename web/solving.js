@@ -19,14 +19,14 @@ export class Solving {
   /**
    * CHECK and NOBOARD are the settings. REFUTATIONS is the most refutations of a try, or null for a report without tries. A
    * problem with LEAST half-moves or more is solved by parts. A report is cut once it has more than MOST letters. ONLY is the number
-   * of the one problem that is solved, or 0 for all. SOLVESHELP solves help play, which has no tries, as without them. SAID receives
-   * each new part of the report.
+   * of the one problem that is solved, or 0 for all. SOLVESHELP solves help play, which has no tries, as without them. PLACED receives
+   * the engine's list of a faulty text's faults, before their report. SAID receives each new part of the report.
    * @param {string} text
-   * @param {{ check?: boolean, noBoard?: boolean, refutations?: number | null, least?: number, most?: number, only?: number, solvesHelp?: boolean }} settings
+   * @param {{ check?: boolean, noBoard?: boolean, refutations?: number | null, least?: number, most?: number, only?: number, solvesHelp?: boolean, placed?: (list: string) => void }} settings
    * @param {Crew} crew
    * @param {(text: string) => void} said
    */
-  constructor(text, { check = false, noBoard = false, refutations = null, least = LEAST_HALF_MOVES, most = Infinity, only = 0, solvesHelp = false }, crew, said) {
+  constructor(text, { check = false, noBoard = false, refutations = null, least = LEAST_HALF_MOVES, most = Infinity, only = 0, solvesHelp = false, placed }, crew, said) {
     this.text = text;
     this.check = check;
     this.noBoard = noBoard;
@@ -35,6 +35,7 @@ export class Solving {
     this.least = least;
     this.hasTries = refutations !== null;
     this.solvesHelp = solvesHelp;
+    this.placed = placed;
     /** @type {Call} the call that solves a problem without tries */
     this.plainCall = { call: 'report', check: false, noBoard };
     /** @type {Call} the call that solves a problem or a text whole */
@@ -96,6 +97,7 @@ export class Solving {
 
   async begin() {
     const tested = await this.ask({ call: 'report', check: true, noBoard: this.noBoard }, this.text);
+    if (this.placed && tested.status) this.placed((await this.ask({ call: 'faults' }, this.text)).text);
     if (this.check) {
       this.give(this.only ? this.chosen(itemsIn(tested.text)).join('') : tested.text);
       this.end({ status: tested.status });

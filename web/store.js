@@ -3,7 +3,7 @@
 import { blockAt, fieldsOf, menOf, sidesOf, valueOf } from './text.js';
 
 export const MOST_KEPT = 20;
-const MOST_KEPT_LETTERS = 100000;
+export const MOST_KEPT_LETTERS = 100000;
 const MOST_LINKED_LETTERS = 30000;
 const MOST_STEPS = 200;
 // The most letters of a visit's texts for undo, and of its report.
@@ -53,15 +53,23 @@ export function keptOf(written) {
 }
 
 /**
+ * Returns the latest texts for undo that fit into a stored visit, with the one that is shown.
+ * @param {StoredSteps} steps
+ * @returns {StoredSteps}
+ */
+export function latestSteps({ texts, place }) {
+  let [first, last, room] = [place, place + 1, MOST_STEP_LETTERS - texts[place].length];
+  while (first > 0 && (room -= texts[first - 1].length) >= 0) first--;
+  while (last < texts.length && (room -= texts[last].length) >= 0) last++;
+  return { texts: texts.slice(first, last), place: place - first };
+}
+
+/**
  * Writes a visit: the latest texts for undo that fit, and the report if it fits.
  * @param {Visit} visit
  */
 export function writtenVisit(visit) {
-  const { texts, place } = visit.steps;
-  let [first, last, room] = [place, place + 1, MOST_STEP_LETTERS - texts[place].length];
-  while (first > 0 && (room -= texts[first - 1].length) >= 0) first--;
-  while (last < texts.length && (room -= texts[last].length) >= 0) last++;
-  const steps = { texts: texts.slice(first, last), place: place - first };
+  const steps = latestSteps(visit.steps);
   const solved = visit.solved && visit.solved.report.length + visit.solved.text.length <= MOST_REPORT_LETTERS ? visit.solved : null;
   return JSON.stringify({ ...visit, steps, solved });
 }

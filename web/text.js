@@ -50,6 +50,23 @@ export function remembered(make) {
 const WORDS_A_STEP = 2000;
 
 /**
+ * Makes a function that reads a problem, and keeps what it has read of long ones; `steps` reads one step by step.
+ * @template T
+ * @param {(block: Block, text: string) => Generator<void, T>} read
+ */
+function keptByBlock(read) {
+  /** @type {WeakMap<Block, T>} */
+  const known = new WeakMap();
+  /** @param {Block} block @param {string} text @returns {Generator<void, T>} */
+  function* steps(block, text) {
+    const made = known.get(block) ?? (yield* read(block, text));
+    if (block.words.length >= WORDS_A_STEP) known.set(block, made);
+    return made;
+  }
+  return { of: (/** @type {Block} */ block, text = '') => atOnce(steps(block, text)), steps };
+}
+
+/**
  * Reads words step by step, up to the last one that is wanted.
  * @param {string} text
  * @param {(word: Token) => boolean} [isLast]
@@ -127,10 +144,20 @@ export function* readText(text) {
 }
 
 /**
- * Returns what a problem poses: its words without text lines, in small letters.
- * @param {Block} block
+ * Finds step by step whether two problems pose the same: whether their words are the same without text lines, in small letters.
+ * @param {Block} one
+ * @param {Block} next
+ * @returns {Generator<void, boolean>}
  */
-export const posedIn = block => block.words.filter(it => !isTextCommand(it.command)).map(it => it.word.toLowerCase()).join(' ');
+export function* posedAlike({ words: one }, { words: next }) {
+  for (let [at, other] = [0, 0]; ; at++, other++) {
+    while (isTextCommand(one[at]?.command)) at++;
+    while (isTextCommand(next[other]?.command)) other++;
+    const [word, second] = [one[at], next[other]];
+    if (!word || word.word.toLowerCase() !== second?.word.toLowerCase()) return word === second;
+    if (at % WORDS_A_STEP === WORDS_A_STEP - 1) yield;
+  }
+}
 
 /**
  * Returns the problem at a place of the text, or the last one before it; null if the text has none.
@@ -155,11 +182,11 @@ function problemAt(text, place) {
 }
 
 /**
- * Reads the men of a problem by square, as 'wK' or 'bS', the parts of the text with men, and the words that a board can't
- * show.
+ * Reads the men of a problem step by step.
  * @param {Block} block
+ * @returns {Generator<void, MenRead>}
  */
-export function menOf(block) {
+function* readMenOf(block) {
   /** @type {MenRead} */
   const found = { men: new Map(), parts: [], unknown: [] };
   /** @type {Colour | null} */
@@ -167,7 +194,8 @@ export function menOf(block) {
   let isOpen = false;
   /** @type {Span | null} */
   let part = null;
-  for (const { word, from, to, command } of block.words) {
+  for (const [at, { word, from, to, command }] of block.words.entries()) {
+    if (at % WORDS_A_STEP === WORDS_A_STEP - 1) yield;
     if (isTextCommand(command)) part = null;
     else if (command) {
       isOpen = command === 'pieces';
@@ -182,6 +210,14 @@ export function menOf(block) {
   }
   return found;
 }
+
+const menByBlock = keptByBlock(readMenOf);
+/**
+ * Returns the men of a problem by square, as 'wK' or 'bS', the parts of the text with men, and the words that a board can't
+ * show.
+ * @param {Block} block
+ */
+export const menOf = block => menByBlock.of(block);
 
 /**
  * Reads one word after Pieces, and returns the colour of the men that follow.
@@ -309,16 +345,18 @@ export function withMen(text, place, men) {
 }
 
 /**
- * Reads the fields of a problem, each with its parts of the text, its own name first.
- * @param {string} text
+ * Reads the fields of a problem step by step.
  * @param {Block} block
+ * @param {string} text
+ * @returns {Generator<void, Fields>}
  */
-export function fieldsOf(text, block) {
+function* readFields(block, text) {
   /** @type {Fields} */
   const fields = {};
   /** @type {FieldState} */
   const state = { section: null, awaited: null, last: null };
-  for (const word of block.words) {
+  for (const [at, word] of block.words.entries()) {
+    if (at % WORDS_A_STEP === WORDS_A_STEP - 1) yield;
     if (word.command && TEXT_FIELDS.includes(word.command)) {
       const end = word.end ?? word.to;
       const said = text.slice(word.to, end).trim();
@@ -331,6 +369,26 @@ export function fieldsOf(text, block) {
     }
   }
   return fields;
+}
+
+const fieldsByBlock = keptByBlock(readFields);
+/**
+ * Returns the fields of a problem, each with its parts of the text, its own name first.
+ * @param {string} text
+ * @param {Block} block
+ */
+export const fieldsOf = (text, block) => fieldsByBlock.of(block, text);
+
+/**
+ * Reads a problem step by step; if it is long, its men and fields are known then.
+ * @param {string} text
+ * @param {Block} block
+ * @returns {Generator<void, void>}
+ */
+export function* readProblem(text, block) {
+  if (block.words.length < WORDS_A_STEP) return;
+  yield* menByBlock.steps(block, text);
+  yield* fieldsByBlock.steps(block, text);
 }
 
 /**
@@ -377,39 +435,36 @@ export function valueOf(fields, name) {
 
 /** @param {string} value */
 const oneLine = value => value.replace(/[\r\n]+/g, ' ').trim();
-/** @param {string} text @param {Block} block @param {string} line */
-const afterOpening = (text, block, line) => `${text.slice(0, block.start)}\n${line}${text.slice(block.start)}`;
 
 /**
- * Sets a title or an author; the last one counts.
+ * Adds a text line after the word that opens the problem; what follows that word in its line goes on the next one.
  * @param {string} text
  * @param {Block} block
- * @param {string} name
- * @param {string} value
+ * @param {string} line
  */
-function withTextLine(text, block, name, value) {
-  const field = fieldsOf(text, block)[name.toLowerCase()];
-  const said = oneLine(value);
-  if (field && said) return replaced(text, [{ ...field.parts[0], said: `${name} ${said}` }]);
-  if (field) return without(text, field.parts);
-  return said ? afterOpening(text, block, `${name} ${said}`) : text;
+function afterOpening(text, block, line) {
+  const isLine = /^[ \t\r]*(\n|$)/.test(text.slice(block.start));
+  return `${text.slice(0, block.start)}\n${line}${isLine ? '' : '\n'}${text.slice(block.start)}`;
 }
 
 /**
- * Sets another word after a command: the stipulation or the condition.
+ * Sets a text line, as the title, or another word after a command: the stipulation or the condition; the last one counts.
  * @param {string} text
  * @param {Block} block
  * @param {string} name
  * @param {string} value
  */
-function withWord(text, block, name, value) {
-  const field = fieldsOf(text, block)[name.toLowerCase()];
+function withValue(text, block, name, value) {
+  const command = name.toLowerCase();
+  const isLine = TEXT_FIELDS.includes(command);
+  const field = fieldsOf(text, block)[command];
   const said = oneLine(value);
-  if (field && said) return replaced(text, [{ ...field.parts[0], said }]);
+  if (field && said) return replaced(text, [{ ...field.parts[0], said: isLine ? `${name} ${said}` : said }]);
   if (field) return without(text, [...commandAlone(field), ...field.parts]);
-  const bare = block.words.find(word => word.command === name.toLowerCase());
-  if (bare && said) return replaced(text, [{ from: bare.to, to: bare.to, said: ` ${said}` }]);
-  return said ? withLine(text, block, `${name} ${said}`) : text;
+  if (!said) return text;
+  if (isLine) return afterOpening(text, block, `${name} ${said}`);
+  const bare = block.words.find(word => word.command === command);
+  return bare ? replaced(text, [{ from: bare.to, to: bare.to, said: ` ${said}` }]) : withLine(text, block, `${name} ${said}`);
 }
 
 /**
@@ -465,9 +520,8 @@ function withNewOption(text, block, said) {
  */
 export function withField(text, place, name, value) {
   const block = problemAt(text, place);
-  if (TEXT_FIELDS.includes(name.toLowerCase())) return withTextLine(text, block, name, value ?? '');
-  if (name === 'Stipulation' || name === 'Condition') return withWord(text, block, name, value ?? '');
-  return withOption(text, block, name, value);
+  const isOption = FLAGS.includes(name) || VALUES.includes(name);
+  return isOption ? withOption(text, block, name, value) : withValue(text, block, name, value ?? '');
 }
 
 /**
@@ -552,12 +606,28 @@ function bodiesOf(text) {
   return bodies;
 }
 
+// Where each line begins.
+const startsOf = remembered(text => {
+  const starts = [0];
+  for (let end = text.indexOf('\n'); end >= 0; end = text.indexOf('\n', end + 1)) starts.push(end + 1);
+  return starts;
+});
+
 /**
  * Returns the line of a place, counted from 1.
  * @param {string} text
  * @param {number} place
  */
-export const lineOf = (text, place) => text.slice(0, place).split('\n').length;
+export function lineOf(text, place) {
+  const starts = startsOf(text);
+  let [line, after] = [1, starts.length + 1];
+  while (line + 1 < after) {
+    const middle = (line + after) >> 1;
+    if (starts[middle - 1] <= place) line = middle;
+    else after = middle;
+  }
+  return line;
+}
 
 /**
  * Returns where a line of a text, counted from 1, begins and ends.
@@ -565,24 +635,23 @@ export const lineOf = (text, place) => text.slice(0, place).split('\n').length;
  * @param {number} line
  */
 export function lineAt(text, line) {
-  let from = 0;
-  for (let number = 1; number < line; number++) {
-    const end = text.indexOf('\n', from);
-    if (end < 0) break;
-    from = end + 1;
-  }
+  const starts = startsOf(text);
+  const from = starts[Math.min(line, starts.length) - 1];
   const end = text.indexOf('\n', from);
   return { from, to: end < 0 ? text.length : end };
 }
 
 /**
- * Returns the problems of a text as pops numbers them: the words and text lines of each, with the word that ends it.
- * @param {string} text
+ * Reads the problems of a text as pops numbers them, step by step: the words and text lines of each, with the word that ends it.
+ * @param {Token[]} words the words of the text
+ * @returns {Generator<void, ProblemWords[]>}
  */
-export function problemsOf(text) {
+function* readProblems(words) {
   /** @type {ProblemWords[]} */
   const problems = [{ tokens: [], isClosed: false }];
-  for (const token of wordsOf(text)) {
+  for (let at = 0; at < words.length; at++) {
+    if (at % WORDS_A_STEP === WORDS_A_STEP - 1) yield;
+    const token = words[at];
     const problem = problems[problems.length - 1];
     problem.tokens.push(token);
     if (token.command !== 'nextproblem' && token.command !== 'endproblem') continue;
@@ -591,4 +660,16 @@ export function problemsOf(text) {
     problems.push({ tokens: [], isClosed: false });
   }
   return problems;
+}
+
+/** Returns the problems of a text as pops numbers them: the words and text lines of each, with the word that ends it. */
+export const problemsOf = remembered(text => atOnce(readProblems(wordsOf(text))));
+
+/**
+ * Reads the problems of a text step by step, as pops numbers them; then they are known.
+ * @param {string} text
+ * @returns {Generator<void, void>}
+ */
+export function* readNumbered(text) {
+  if (!problemsOf.knows(text)) problemsOf.take(text, yield* readProblems(wordsOf(text)));
 }

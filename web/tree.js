@@ -42,6 +42,13 @@ const stepsTo = ({ row, index }) => [...stepsAbove(row), ...stepsOf(row).slice(0
 const saidIn = row => `${pathOf(row)}\n${row.below.map(saidIn).join('')}`;
 
 /**
+ * Returns the rows of a list that are drawn.
+ * @param {TreeRow[]} rows
+ * @param {ListBox} [list]
+ */
+const drawnOf = (rows, list) => rows.slice(0, list?.filling.drawn ?? 0);
+
+/**
  * Says what refutes a try, for its folded row; empty for another row.
  * @param {TreeRow} row
  */
@@ -445,15 +452,18 @@ export class Tree {
   }
 
   /**
-   * Unfolds or folds all drawn rows and the rows below, up to a number that a page can show.
+   * Unfolds or folds all drawn rows, and the rows that are drawn then, up to a number that a page can show.
    * @param {boolean} isOpen
    */
   foldAll(isOpen) {
-    const waiting = this.groups.flatMap(group => group.rows);
-    for (let done = 0; done < waiting.length && done < MOST_UNFOLDED; done++) {
-      const row = waiting[done];
-      if (row.line && row.below.length) this.fold(row, isOpen);
-      waiting.push(...row.below);
+    const waiting = this.groups.flatMap(group => drawnOf(group.rows, group.list));
+    let unfolded = 0;
+    for (let at = 0; at < waiting.length && unfolded < MOST_UNFOLDED; at++) {
+      const row = waiting[at];
+      this.fold(row, isOpen);
+      const below = drawnOf(row.below, row.list);
+      if (isOpen) unfolded += below.length;
+      for (const it of below) waiting.push(it);
     }
   }
 

@@ -67,18 +67,13 @@ interface Row { moves: Move[]; path: Move[]; below: Row[]; word?: string }
 
 // Names, twins, and what the text says of a problem.
 
-interface Given { title: string | null; author: string | null; origin: string | null; remarks: string[] }
 interface Label { text: string; number: number; isDuplex: boolean }
 /** A problem of the text, as the list of problems names it. */
 interface Content { number: number; title: string | null; author: string | null; asked: string | null; men: Men }
 /** A problem among its twins: its label, the title with it, and what changes in it. */
 interface ContentTwin extends Content { label: Label; whole: string | null; change: string }
-/** What tells twins from other problems. */
-interface Named { number: number; title: string | null; author: string | null; label: Label }
 /** A problem of the printed sheet. */
 interface PrintedProblem { number: number; title: string | null; author: string | null; asked: string | null; men: Men; label: { text: string }; change: string }
-/** An item among its twins, with its names. */
-interface ItemTwin extends Given { item: Item; number: number; label: Label; whole: string | null }
 
 // The store.
 
@@ -182,8 +177,6 @@ interface ListBox extends HTMLElement {
 interface ItemBox extends HTMLElement { groups: Group[]; head: HTMLElement; age: HTMLElement; compared: HTMLDetailsElement }
 /** A phase as it is drawn. */
 interface Group { kind: string; item: SoundItem; men: Men; rows: TreeRow[]; list: ListBox; lines: number; total: HTMLElement }
-/** A line of a solution in short notation, and how far it is set in. */
-interface ShortLine { text: string; level: number }
 /** A phase or a first move beside others: what it threatens, and the replies to it. */
 interface ComparedColumn<T> { kind: string; label: string; row: T | null; head: T | null; replies: T[]; refutations: T[] }
 /** White's moves after a reply, and whether they are others than in the play; `!` if the reply refutes. */

@@ -10,6 +10,7 @@ const CALLS = {
   report: ({ check, noBoard }) => ['pops_report', check ? 1 : 0, noBoard ? 1 : 0],
   tries: ({ noBoard, refutations }) => ['pops_tries', noBoard ? 1 : 0, refutations ?? 1],
   list: ({ depth }) => ['pops_list', BigInt(depth ?? 0)],
+  faults: () => ['pops_faults'],
   part: ({ isSet, depth, number }) => ['pops_part', isSet ? 1 : 0, BigInt(depth ?? 0), BigInt(number ?? 0)],
 };
 /** @type {Promise<WebAssembly.Instance> | null} */

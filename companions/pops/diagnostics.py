@@ -4,6 +4,7 @@ from typing import Optional, Union
 
 from pops.engine import Engine
 from pops_companions.explain.diagnostics import Diagnostic, diagnostics
+from pops_companions.many.fault_places import places_of
 from pops_companions.report.reader import read_report
 
 
@@ -16,5 +17,7 @@ def explain(
     `every` is whether the faults after the first one of a problem are found too; they have no fix.
     """
     data = text if isinstance(text, bytes) else text.encode("utf-8", "surrogateescape")
-    report = (engine or Engine()).check(data).result.text
-    return list(diagnostics(data, read_report([report]), every))
+    engine = engine or Engine()
+    result = engine.check(data).result
+    places = places_of(data, engine.program) if result.status else {}
+    return list(diagnostics(data, read_report([result.text]), every, places))

@@ -11,11 +11,11 @@ import stat
 import sys
 import threading
 from collections.abc import Callable, Iterator, Sequence
-from contextlib import contextmanager
+from contextlib import contextmanager, suppress
 from enum import IntEnum
 from functools import lru_cache
 from itertools import takewhile
-from typing import Any, BinaryIO, NoReturn, Optional, TextIO, cast
+from typing import Any, BinaryIO, NoReturn, Optional, TextIO, Union, cast
 
 from pops_companions import files, places
 
@@ -335,6 +335,8 @@ def opened(file: Optional[str]) -> Iterator[BinaryIO]:
     if file in (None, STANDARD_INPUT):
         if sys.stdin is None:
             raise CommandError(Status.DEVICE, "standard input is closed")
+        with suppress(io.UnsupportedOperation):
+            note_read(sys.stdin.fileno())
         yield sys.stdin.buffer
         return
     assert file is not None
@@ -343,9 +345,14 @@ def opened(file: Optional[str]) -> Iterator[BinaryIO]:
     except OSError as error:
         raise CommandError(Status.DEVICE, f"cannot open {file}: {error.strerror}") from None
     with source:
-        status = os.fstat(source.fileno())
-        _READ.add((status.st_dev, status.st_ino))
+        note_read(source.fileno())
         yield source
+
+
+def note_read(file: Union[str, int]) -> None:
+    """Notes that this run has a file, given by path or as open: it isn't written over."""
+    status = os.stat(file)
+    _READ.add((status.st_dev, status.st_ino))
 
 
 def read_all(file: Optional[str]) -> bytes:
@@ -374,6 +381,23 @@ def _refuse_read(file: str) -> None:
         return
     if stat.S_ISREG(status.st_mode) and (status.st_dev, status.st_ino) in _READ:
         raise CommandError(Status.USAGE, f"{file} is named twice")
+
+
+def refuse_shared(read: Sequence[str], written: Sequence[Optional[str]]) -> None:
+    """Refuses what would be written over an input or over another file of the run. None is standard
+    output.
+    """
+    taken = {os.path.realpath(path) for path in read}
+    if None in written and sys.stdout is not None:
+        with suppress(io.UnsupportedOperation):
+            note_read(sys.stdout.fileno())
+    for path in filter(None, written):
+        _refuse_read(path)
+        real = os.path.realpath(path)
+        if real in taken:
+            raise CommandError(Status.USAGE, f"{path} is named twice")
+        if os.path.isfile(real) or not os.path.exists(real):
+            taken.add(real)
 
 
 @contextmanager

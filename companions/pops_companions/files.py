@@ -70,6 +70,14 @@ def written_whole(
         raise
 
 
+def restrict(handle: int, path: str) -> None:
+    """Lets nobody read a new file who can't read the file by this path, if there is one."""
+    with suppress(OSError):
+        before = os.stat(path)
+        if stat.S_ISREG(before.st_mode):
+            os.fchmod(handle, stat.S_IMODE(os.fstat(handle).st_mode & before.st_mode))
+
+
 def try_out(unfinished: str) -> None:
     """Makes and removes a file of this name. OSError where none can be made."""
     remove(unfinished)

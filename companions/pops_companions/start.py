@@ -1,5 +1,7 @@
-"""Begins each companion. (This module imports nothing else, so that a shortage is met in `begin`.)"""
+"""Begins each companion. (This module imports nothing that Python has to load, so that a shortage is met
+in `Companion`.)"""
 
+import _signal  # type: ignore[import]
 import sys
 
 # Status.FAILED and Status.UNFINISHED, whose module may be what can't be loaded.
@@ -15,6 +17,7 @@ class Companion:
 
     def __call__(self) -> None:
         """Runs the companion on the program's arguments and ends with its status."""
+        _end_by_interrupts()
         try:
             self._run()
         except KeyboardInterrupt:
@@ -38,6 +41,16 @@ class Companion:
         finally:
             sys.stderr = errors
         command.run(loaded.NAME, loaded.main)
+
+
+def _end_by_interrupts() -> None:
+    """Lets an interrupt end the program at once, without a traceback; later `command.run` heeds it."""
+    if _signal.getsignal(_signal.SIGINT) is _signal.default_int_handler:
+        try:
+            _signal.signal(_signal.SIGINT, _signal.SIG_DFL)
+        except ValueError:
+            # (not in the main thread, which alone hears of it)
+            pass
 
 
 class _Unheard:

@@ -1,12 +1,38 @@
 """Tables that companions write: a line for each row, with tabs between its cells."""
 
+import re
+import unicodedata
 from collections.abc import Iterable
+
+# What a text begins with that a spreadsheet computes, also in another width.
+_OF_FORMULAS = ("=", "+", "-", "@")
+_ENDS_OF_CELLS = ("\t", "\r", "\n")
+# Parts cells for a reader that takes no comma for an end: to it a quote after a comma is none.
+_PARTING = re.compile("([;\t\r\n])")
 
 
 def row_of(cells: Iterable[object]) -> str:
-    r"""Returns a row with its line end. In a cell a tab is `\t`, a line end `\n`, a backslash `\\`."""
+    r"""Returns a row with its line end. In a cell a tab is `\t`, a line end `\n`, a backslash `\\`, and `'`
+    is in front of a text that a spreadsheet would compute.
+    """
     return "\t".join(map(_cell, cells)) + "\n"
 
 
 def _cell(value: object) -> str:
-    return str(value).replace("\\", "\\\\").replace("\t", "\\t").replace("\n", "\\n")
+    text = uncomputed(value) if isinstance(value, str) else str(value)
+    return text.replace("\\", "\\\\").replace("\t", "\\t").replace("\n", "\\n")
+
+
+def uncomputed(text: str) -> str:
+    """Returns a text with an apostrophe in front of what a spreadsheet would compute, also after a
+    semicolon or a tab, where a quote may open a cell.
+    """
+    first, *others = _PARTING.split(text)
+    others[1::2] = [f"'{it}" if _is_formula(it.replace('"', "")) else it for it in others[1::2]]
+    return "".join([f"'{first}" if _is_formula(text) else first, *others])
+
+
+def _is_formula(text: str) -> bool:
+    """Returns whether a spreadsheet may compute a text: some drop what nobody sees in front."""
+    sign = next((it for it in text if unicodedata.category(it)[0] not in "CZ"), "")
+    return text.startswith(_ENDS_OF_CELLS) or unicodedata.normalize("NFKC", sign) in _OF_FORMULAS

@@ -167,6 +167,8 @@ class Browser:
     def open(self, address: str, ready: str = "true") -> None:
         """Opens a page in place of the one before."""
         self.call("Page.navigate", url="about:blank")
+        # (a page that may ask whether to leave it is left later)
+        self.wait("location.href === 'about:blank'")
         self.call("Page.navigate", url=address)
         self.wait("document.readyState === 'complete' && location.href !== 'about:blank'")
         self.wait(ready)

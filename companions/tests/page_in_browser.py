@@ -4,6 +4,7 @@ through, stopped, printed; tries and threats; texts pasted and dropped, hostile 
 import base64
 import json
 import re
+import time
 from collections.abc import Callable
 from pathlib import Path
 from typing import Optional
@@ -12,7 +13,7 @@ from tests.browser_pipe import Browser, BrowserError, BrowserGoneError
 
 READY = "document.getElementById('solve') && !document.getElementById('solve').disabled"
 IDLE = "document.getElementById('stop').disabled"
-SOLVED = f"{IDLE} && document.getElementById('report').textContent.endsWith('\\n\\n')"
+SOLVED = f"{IDLE} && state.report.endsWith('\\n\\n')"
 # A telephone: its width, the height that the browser leaves to a page, the least width, the least square, the least of the solutions in sight.
 NARROW = 360
 LEAST_HEIGHT = 660
@@ -226,8 +227,10 @@ def grown(page: Page) -> None:
     browser.run("Object.defineProperty(navigator, 'hardwareConcurrency', { value: 2 })")
     browser.run(HELD)
     browser.click("#solve")
-    drawn_up_to = "document.getElementById('report').textContent.length > most"
+    # (it is shown a number of lines at a time, and the tree grows later)
+    drawn_up_to = "(document.getElementById('moreReport').click(), document.getElementById('report').textContent.length > most)"
     browser.wait(drawn_up_to)
+    browser.wait("document.querySelector('#tree .move') !== null")
     browser.click("#tree .move")
     browser.key("ArrowRight")
     reached = page.told("reached")
@@ -547,6 +550,39 @@ def linked(page: Page) -> None:
     page.holds(page.text() == own, f"undo after a reload: {page.text()}")
 
 
+def leave_or_stay(page: Page, is_left: bool) -> None:
+    """Leaves the page or stays, once the browser asks which."""
+    end = time.monotonic() + SECONDS_OF_A_LONG_TEXT
+    while True:
+        try:
+            page.browser.call("Page.handleJavaScriptDialog", accept=is_left)
+            return
+        except BrowserGoneError:
+            raise
+        except BrowserError:
+            if time.monotonic() > end:
+                raise
+            time.sleep(0.05)
+
+
+def unkept(page: Page) -> None:
+    """A text that the browser has no room for: said at once, asked before the page is left; the one before is there after a reload."""
+    browser = page.browser
+    page.open(MATE_IN_TWO)
+    # (a browser asks only where the page was used)
+    browser.click("#count")
+    browser.run("window.isBefore = true; takeText(textNow().replace('Pieces', `Remark ${'x'.repeat(6 * 2 ** 20)}\\nPieces`))")
+    browser.wait("!document.getElementById('unkept').hidden")
+    page.holds("save it as a file" in page.told("unkept"), page.told("unkept"))
+    browser.run("setTimeout(() => location.reload())")
+    leave_or_stay(page, is_left=False)
+    page.holds(browser.run("window.isBefore && textNow().length") > 6 << 20, "the page stays")
+    browser.run("setTimeout(() => location.reload())")
+    leave_or_stay(page, is_left=True)
+    browser.wait(f"!window.isBefore && {READY}")
+    page.holds(page.text() == MATE_IN_TWO and "is lost" in page.told("note"), f"after a reload: {page.text()[:200]}, {page.told('note')}")
+
+
 def composed(page: Page) -> None:
     """A man dragged from the palette; a FEN pasted while a solution is stepped through; a move played, and solved from there."""
     browser = page.browser
@@ -662,6 +698,7 @@ LOOKS: list[Callable[[Page], None]] = [
     given_away,
     beside,
     linked,
+    unkept,
     composed,
     without_engine,
     hostile,

@@ -49,12 +49,20 @@ def _fields(folder: Path) -> list[bytes]:
         return []
 
 
-def children(process: int) -> list[int]:
-    """The processes that a process started, but for watchers."""
+def _started_by(process: int) -> list[Path]:
     folders = Path("/proc").glob("[0-9]*")
     wanted = str(process).encode()
-    found = [folder for folder in folders if _fields(folder)[1:2] == [wanted]]
-    return [int(folder.name) for folder in found if not _is_watcher(folder)]
+    return [folder for folder in folders if _fields(folder)[1:2] == [wanted]]
+
+
+def children(process: int) -> list[int]:
+    """The processes that a process started, but for watchers."""
+    return [int(it.name) for it in _started_by(process) if not _is_watcher(it)]
+
+
+def watchers(process: int) -> list[int]:
+    """The watchers that a process started."""
+    return [int(it.name) for it in _started_by(process) if _is_watcher(it)]
 
 
 def _is_watcher(folder: Path) -> bool:
@@ -90,8 +98,14 @@ class SixProblems(unittest.TestCase):
 
     def stand_in(self, then: str) -> str:
         """A program that does so on the fourth problem, and on all others what pops does."""
-        does = _STAND_IN.format(room=self.room, then=then, pops=support.pops())
-        return stand_in(self.room / "stand_in", does)
+        return stand_in(self.room / "stand_in", self._does(then))
+
+    def _does(self, then: str) -> str:
+        return _STAND_IN.format(room=self.room, then=then, pops=support.pops())
+
+    def stand_in_does(self, then: str) -> None:
+        """Lets a stand-in, which may have been moved, do something else."""
+        (self.room / "stand_in.sh").write_text(self._does(then))
 
     def words(self, pops: str, *more: str) -> list[str]:
         return ["--pops", pops, "--jobs", "1", "-o", str(self.report), str(self.input), *more]

@@ -28,8 +28,7 @@ END
 """
 _LINES_OF_THE_BEGINNING = 34
 # In the place of pops-part: it notes each part that it is asked for, and on some does otherwise.
-_POPS_PART = """#!/bin/sh
-case $(cat) in *Pa7*) of=problem ;; *) of=probe ;; esac
+_POPS_PART = """case $(cat) in *Pa7*) of=problem ;; *) of=probe ;; esac
 if [ "$1" = --list ]; then echo $of >> "{room}/lists"; exec cat "{room}/told/$of/list-$3"; fi
 [ $of = probe ] || echo "$4-$6" >> "{room}/runs_on_parts"
 number=${{6%%.*}}
@@ -87,9 +86,8 @@ class SplitRoom(SixProblems):
 
     def pops_part(self, pattern: str = "none", then: str = ":") -> str:
         """A program of parts that does so on these parts, as `problem-play-2`."""
-        return self.write(
-            "pops_part", _POPS_PART.format(room=self.room, pattern=pattern, then=then)
-        )
+        does = _POPS_PART.format(room=self.room, pattern=pattern, then=then)
+        return stand_in(self.room / "pops_part", does)
 
     def words_of_split(self, pops_part: str, *more: str) -> list[str]:
         words = ["--split", "--split-after", "1", "--split-depth", "1"]
@@ -126,6 +124,6 @@ class SplitRoom(SixProblems):
                 path.unlink()
 
     def files(self) -> list[str]:
-        own = {"parts", "runs_on_parts", "lists", "pops_part", "told", "failed", "ssh"}
+        own = {"parts", "runs_on_parts", "lists", "pops_part", "pops_part.sh", "told", "failed", "ssh"}
         names = [name for name in super().files() if not name.startswith("shown-")]
         return [name for name in names if name not in own]

@@ -2,8 +2,11 @@
 
 import os
 import signal
+import subprocess
+import sys
 import tempfile
 import threading
+import time
 import unittest
 from pathlib import Path
 from subprocess import PIPE
@@ -14,9 +17,17 @@ from pops_companions.many.bundle_run import BundleRun
 from pops_companions.many.bundles import Bundles
 from pops_companions.many.child_process import ChildProcess, Outcome, rest_of
 from tests import support
-from tests.six_problems import wait_for
+from tests.six_problems import wait_for, watchers
 from tests.test_bundles import MATE, input_of, tasks
 
+# Leaves its session, its environment and the program that started it; its number is in a file.
+_LEAVES = "env -i setsid sleep 1800 & echo $! > '{noted}'; {end}"
+# Runs a program until it is killed.
+_RUNS = """
+import subprocess, sys
+from pops_companions.many.child_process import ChildProcess
+ChildProcess(sys.argv[1:], subprocess.PIPE, subprocess.PIPE).outcome(b"")
+"""
 # A process group of its own, that `timeout` makes.
 _GROUP = "timeout 1800 sleep 1800"
 
@@ -68,6 +79,23 @@ class Ended(unittest.TestCase):
             self.assertEqual((outcome.output, outcome.in_time), (b"well\n", False))
             self.assertEqual(sessions.members(child.run.pid), [])
 
+    def test_no_shell_goes_on_when_its_child_is_killed(self) -> None:
+        shells = f"(sleep 1800; touch '{self.room}/went_on') &" * 8
+        child = self.begun(f"{shells} wait", as_script=False)
+        wait_for(lambda: len(sessions.members(child.run.pid)) == 1 + 2 * 8)
+
+        def youngest_first(session: int) -> list[int]:
+            return sorted(members(session), reverse=True)
+
+        def send_slowly(process: int, sign: int) -> bool:
+            time.sleep(0.05)
+            return send(process, sign)
+
+        members, send = sessions.members, sessions._send
+        with mock.patch.multiple(sessions, members=youngest_first, _send=send_slowly):
+            sessions.end(child.run.pid)
+        self.assertEqual(os.listdir(self.room), [])
+
     def test_what_left_its_session_is_not_waited_for(self) -> None:
         for end in ("exit 0", "wait"):
             with self.subTest(end):
@@ -75,10 +103,63 @@ class Ended(unittest.TestCase):
                 child = self.begun(f"echo well; setsid sleep 1800 & echo $! > '{noted}'; {end}", True)
                 wait_for(lambda noted=noted: noted.is_file() and noted.read_bytes().endswith(b"\n"))  # type: ignore[misc]
                 stranger = int(noted.read_bytes())
-                self.addCleanup(os.kill, stranger, signal.SIGKILL)
+                self.addCleanup(sessions.end, stranger)
                 wait_for(lambda stranger=stranger: os.getsid(stranger) == stranger)  # type: ignore[misc]
                 outcome = self.killed(child, 0 if end == "exit 0" else 1)
                 self.assertEqual(outcome.output, b"well\n")
+
+    def noted(self, noted: Path) -> int:
+        """The process that is noted, once it has a session of its own."""
+        wait_for(lambda: noted.is_file() and noted.read_bytes().endswith(b"\n"))
+        process = int(noted.read_bytes())
+        self.addCleanup(sessions.end, process)
+        wait_for(lambda: os.getsid(process) == process)
+        return process
+
+    def test_what_left_its_session_and_its_environment(self) -> None:
+        for end in ("exit 0", "wait"):
+            with self.subTest(end):
+                noted = self.room / f"noted {end}"
+                child = self.begun(_LEAVES.format(noted=noted, end=end), True)
+                process = self.noted(noted)
+                self.killed(child, 0 if end == "exit 0" else 1)
+                wait_for(lambda process=process: not sessions.members(process))  # type: ignore[misc]
+
+    def test_what_left_them_where_the_companion_is_killed(self) -> None:
+        noted, program = self.room / "noted", self.room / "program"
+        program.write_text(f"#!/bin/sh\n{_LEAVES.format(noted=noted, end='wait')}\n")
+        program.chmod(0o755)
+        run = subprocess.Popen([sys.executable, "-c", _RUNS, str(program)], cwd=support.COMPANIONS)
+        process = self.noted(noted)
+        run.kill()
+        run.communicate()
+        wait_for(lambda: not sessions.members(process))
+
+    def test_a_watcher_that_is_killed_is_replaced(self) -> None:
+        program = self.room / "program"
+        program.write_text(f"#!/bin/sh\n{_LEAVES.format(noted=self.room / 'noted', end='wait')}\n")
+        program.chmod(0o755)
+        run = subprocess.Popen([sys.executable, "-c", _RUNS, str(program)], cwd=support.COMPANIONS)
+        process = self.noted(self.room / "noted")
+        self.addCleanup(sessions.end, process)
+        wait_for(lambda: watchers(run.pid))
+        (first,) = watchers(run.pid)
+        os.kill(first, signal.SIGKILL)
+        wait_for(lambda: set(watchers(run.pid)) - {first})
+        run.kill()
+        run.communicate()
+        wait_for(lambda: not sessions.members(process))
+
+    def test_what_a_companion_starts_meanwhile_stays(self) -> None:
+        """It holds the pipe for the moment before it becomes another program."""
+        reading, writing = os.pipe()
+        child = subprocess.Popen(["sleep", "1800"], pass_fds=(reading,))
+        self.addCleanup(child.communicate)
+        self.addCleanup(child.kill)
+        sessions.end(0, pipe=sessions.name_of_pipe(reading))
+        self.assertIsNone(child.poll())
+        os.close(reading)
+        os.close(writing)
 
     def test_what_is_in_a_pipe_that_is_open(self) -> None:
         reading, writing = os.pipe()

@@ -58,6 +58,36 @@ OVERWRITING = (
     ("pops-test", "@report", "-o", "@report"),
     ("pops2json", "@report", "-o", "@report"),
 )
+# Command lines whose last word is standard input too.
+FROM_STANDARD_INPUT = (
+    ("fen2pop", "-s", "#1", "-o", "@positions"),
+    ("pops-compare", "-", "@other", "-o", "@report"),
+    ("pops-explain", "-", "-o", "@input"),
+    ("pops-export", "--to", "yaml", "-o", "@input"),
+    ("pops-import", "-o", "@input"),
+    ("pops-judge", "-", "-o", "@input"),
+    ("pops-many", "-o", "@input"),
+    ("pops-many", "-o", "@made", "--index", "@input"),
+    ("pops-page", "-", "-o", "@report"),
+    ("pops-page", "--input", "-", "@report", "-o", "@input"),
+    ("pops-sheet", "-", "-o", "@input"),
+    ("pops-test", "-", "-o", "@report"),
+    ("pops2json", "-o", "@report"),
+)
+# Command lines with one file for two outputs; the last word names it.
+TWICE = (
+    ("pops-import", "@input", "-o", "@made", "--index", "@made"),
+    ("pops-import", "@input", "-o", "@made", "--index", "@link"),
+    ("pops-explain", "@input", "--fix", "-o", "@input.fixed"),
+    ("pops-explain", "@input", "--fix", "--force", "-o", "@input.fixed"),
+)
+# Command lines whose last word is standard output too.
+TO_STANDARD_OUTPUT = (
+    ("pops-import", "@input", "--index", "@made"),
+    ("pops-many", "@input", "--index", "@made"),
+    ("pops-many", "@input", "--journal", "@made"),
+    ("pops-explain", "@input", "--fix", "@input.fixed"),
+)
 POSITIONS = b"6k1/8/6K1/8/8/8/8/R7 w - -\n" * 2_000
 
 
@@ -153,6 +183,49 @@ class Streams(unittest.TestCase):
                 for file, text in kept.items():
                     self.assertEqual(Path(room, file).read_bytes(), text)
 
+    def test_standard_input_is_not_written_over(self) -> None:
+        kept = {"input": PROBLEM, "report": REPORT, "positions": POSITIONS[:80], "other": REPORT}
+        for companion, *words, output in FROM_STANDARD_INPUT:
+            with self.subTest(companion), tempfile.TemporaryDirectory() as room:
+                for file, text in kept.items():
+                    Path(room, file).write_bytes(text)
+                path = output.replace("@", f"{room}/")
+                given = [it.replace("@", f"{room}/") for it in words]
+                with open(path, "rb") as source:
+                    program = [sys.executable, str(support.COMPANIONS / companion)]
+                    run = subprocess.run([*program, *given, path], stdin=source, capture_output=True, check=False)
+                self.assertIn((run.returncode, run.stdout), ((2, b""), (3, b"")))
+                self.assertIn(f"{companion}: {path} is named twice\n".encode(), run.stderr)
+                self.assertEqual(sorted(os.listdir(room)), sorted(kept))
+                for file, text in kept.items():
+                    self.assertEqual(Path(room, file).read_bytes(), text)
+
+    def test_two_outputs_are_not_one_file(self) -> None:
+        faulty = PROBLEM.replace(b"#1", b"#1x")
+        for companion, *words in TWICE:
+            with self.subTest(companion, words=words), tempfile.TemporaryDirectory() as room:
+                Path(room, "input").write_bytes(faulty)
+                Path(room, "link").symlink_to("made")
+                given = [it.replace("@", f"{room}/") for it in words]
+                outcome = run_here.companion(companion, *given)
+                said = f"{companion}: {given[-1]} is named twice\n"
+                self.assertEqual(outcome, (2, b"", said))
+                self.assertEqual(sorted(os.listdir(room)), ["input", "link"])
+
+    def test_an_output_is_not_standard_output_too(self) -> None:
+        faulty = PROBLEM.replace(b"#1", b"#1x")
+        for companion, *words, output in TO_STANDARD_OUTPUT:
+            with self.subTest(companion, words=words), tempfile.TemporaryDirectory() as room:
+                Path(room, "input").write_bytes(faulty)
+                path = output.replace("@", f"{room}/")
+                given = [it.replace("@", f"{room}/") for it in words] + [path] * (companion != "pops-explain")
+                with open(path, "wb") as target:
+                    program = [sys.executable, str(support.COMPANIONS / companion)]
+                    run = subprocess.run([*program, *given], stdout=target, stderr=subprocess.PIPE, check=False)
+                self.assertEqual((run.returncode, run.stderr), (2, f"{companion}: {path} is named twice\n".encode()))
+                self.assertEqual(sorted(os.listdir(room)), sorted(["input", os.path.basename(path)]))
+                self.assertEqual(Path(path).read_bytes(), b"")
+
     def test_all_companions_are_tried_on_missing_files(self) -> None:
         commands = {it.name for it in support.COMPANIONS.iterdir() if os.access(it, os.X_OK) and it.is_file()}
         tried = {companion for companion, *_ in MISSING}
@@ -187,9 +260,23 @@ class Ends(unittest.TestCase):
         return self.ended("\n".join([*head, *body, "command.run('it', main)"]))
 
     def test_an_interrupt_while_a_command_is_loaded(self) -> None:
-        interrupt = "os.kill(os.getpid(), signal.SIGINT)"
-        outcome = self.ended(f"import pops_companions.commands\n{interrupt}")
+        outcome = self.ended(
+            "def interrupt(*_): os.kill(os.getpid(), signal.SIGINT)\n"
+            "sys.meta_path.insert(0, type('Interrupting', (), {'find_spec': staticmethod(interrupt)}))\n"
+            "start.judge()",
+            "from pops_companions import start",
+        )
         self.assertEqual(outcome, (-signal.SIGINT, b"", ""))
+
+    def test_an_interrupt_that_is_ignored(self) -> None:
+        """As by nohup: it stays ignored."""
+        with tempfile.TemporaryDirectory() as room:
+            first = Path(room, "sitecustomize.py")
+            first.write_text("import os, signal\nos.kill(os.getpid(), signal.SIGINT)\n")
+            script = support.COMPANIONS / "pops-find"
+            ignoring = f"trap '' INT; PYTHONPATH='{room}' exec '{script}' --version"
+            outcome = support.run(["/bin/sh", "-c", ignoring])
+        self.assertEqual((outcome.status, outcome.error), (0, ""))
 
     def test_an_interrupt_before_a_command_is_loaded(self) -> None:
         outcome = self.ended(

@@ -2,13 +2,13 @@
 
 import io
 import tempfile
+import tracemalloc
 import unittest
 from pathlib import Path
 from typing import Optional
 
-from pops_companions.report.items import Item
 from pops_companions.report.reader import read_report
-from pops_companions.review.matching import pairs_of
+from pops_companions.review.matching import Heads, Pairs
 from tests import run_here, support, test_soundness
 
 MATE = "1.Ra1-a8#\n"
@@ -40,15 +40,18 @@ def report(*problems: str) -> bytes:
     return text.encode()
 
 
-def items(*problems: str) -> list[Item]:
-    return list(read_report(io.BytesIO(report(*problems))))
+def heads(*problems: str) -> Heads:
+    found = Heads()
+    for item in read_report(io.BytesIO(report(*problems))):
+        found.add(item)
+    return found
 
 
 def numbers(old: list[str], new: list[str]) -> list[tuple[Optional[int], Optional[int]]]:
     """Which number of one report was matched with which of the other."""
     return [
-        (pair.old.number if pair.old else None, pair.new.number if pair.new else None)
-        for pair in pairs_of(items(*old), items(*new))
+        (None if at.old is None else at.old + 1, None if at.new is None else at.new + 1)
+        for at in Pairs(heads(*old), heads(*new))
     ]
 
 
@@ -282,6 +285,33 @@ class Differences(unittest.TestCase):
             "  solved: no -> yes",
             "1 problem: 1 differs",
         )  # fmt: skip
+
+
+class Memory(unittest.TestCase):
+    # The most bytes that are kept of a problem, of both reports together.
+    MOST = 300
+
+    def peak(self, number: int) -> int:
+        """The most memory of a comparison of this many problems with themselves in another order."""
+        men = [problem(f"Number {it}", ROOK_A) for it in range(number)]
+        with tempfile.TemporaryDirectory() as room:
+            old, new = Path(room) / "old", Path(room) / "new"
+            old.write_bytes(report(*men))
+            new.write_bytes(report(*men[1:], men[0]))
+            del men
+            tracemalloc.start()
+            try:
+                outcome = run_here.companion("pops-compare", str(old), str(new))
+                most = tracemalloc.get_traced_memory()[1]
+            finally:
+                tracemalloc.stop()
+        self.assertEqual(outcome, (0, f"{number} problems: nothing differs\n".encode(), ""))
+        return most
+
+    def test_little_is_kept_of_each_problem(self) -> None:
+        few, more = 2000, 6000
+        self.peak(few)
+        self.assertLess((self.peak(more) - self.peak(few)) / (more - few), self.MOST)
 
 
 class Documented(unittest.TestCase):

@@ -135,6 +135,15 @@ class Marks(unittest.TestCase):
         self.assertEqual(text[signs.index("^") : len(signs)], "0100")
 
 
+    def test_of_a_long_line_parts_are_shown(self) -> None:
+        line = b" ".join(b"%05d" % number for number in range(20_000))
+        text, signs = marked(line, [(600, 605), (90_000, 90_005)])
+        self.assertRegex(text, r"\A\.\.[^.]* 00100 [^.]*\.\.[^.]* 15000 [^.]*\.\.\Z")
+        self.assertLess(len(text), 120)
+        places = [found.span() for found in re.finditer("\\^+", signs)]
+        self.assertEqual([text[start:stop] for start, stop in places], ["00100", "15000"])
+
+
 def command(*words: str, text: bytes = b"") -> support.Outcome:
     return support.companion("pops-explain", *words, text=text)
 

@@ -2,14 +2,17 @@
 
 import random
 import tempfile
+import time
 import unittest
 from pathlib import Path
 from typing import Optional
 
+from pops_companions.chess.fen import FenError, read_position
 from tests import support
 
 Place = tuple[int, int]
-
+# The most processor time for a long line: it takes a tenth of it.
+SECONDS = 5.0
 
 TURNED = ": colours turned round, since the other side starts; --keep-colours leaves them"
 
@@ -190,6 +193,25 @@ class Sources(unittest.TestCase):
             f"fen2pop: standard input, line {place}: {why}" for place, (_, why) in enumerate(bad, 1)
         ]
         self.assertEqual(outcome.error.splitlines(), told)
+
+    def test_a_long_line_takes_no_longer_than_it_is(self) -> None:
+        position, length = "k7/8/8/8/8/8/8/7K w - -", 30_000
+        for rest in ("x" * length, "x" + " " * length + "x", 'x "' + "x" * length):
+            with self.subTest(rest[:3]):
+                error = self.refused_in_time(f"{position} {rest}")
+                self.assertEqual(error, f"{rest!r} is neither the end of a FEN nor an operation of an EPD")
+        began = time.process_time()
+        read = read_position(f"{position} {'x 1;' * (5 * length)} id \"a; b\"; ")
+        self.assertLess(time.process_time() - began, SECONDS)
+        self.assertEqual(read.operations, {"x": "1", "id": "a; b"})
+
+    def refused_in_time(self, text: str) -> str:
+        """What is said of a text that is no position."""
+        began = time.process_time()
+        with self.assertRaises(FenError) as raised:
+            read_position(text)
+        self.assertLess(time.process_time() - began, SECONDS)
+        return str(raised.exception)
 
     def test_mistakes_have_a_line_and_a_status(self) -> None:
         nothing = support.companion("fen2pop", "-s", "#2")

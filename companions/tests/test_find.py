@@ -416,6 +416,22 @@ class Command(unittest.TestCase):
             with self.subTest(words):
                 self.assertEqual(self.run_on(*words).status, status)
 
+    def test_a_page_is_not_written_over_the_collection(self) -> None:
+        self.added("morphy_1856.pop")
+        problem = str(self.examples / "morphy_1856.pop")
+        solved = self.room / "solved"
+        solved.write_bytes(support.run([support.pops(), problem]).output)
+        link = self.room / "link.html"
+        link.symlink_to(self.path)
+        before = Path(self.path).read_bytes()
+        for words in (["--author", "Morphy"], ["--near", problem], ["--play", str(solved)]):
+            for page in (self.path, str(link)):
+                with self.subTest(words, page=page):
+                    outcome = self.run_on(*words, "-o", page)
+                    said = f"pops-find: {page} is named twice\n"
+                    self.assertEqual(outcome, (2, b"", said))
+                    self.assertEqual(Path(self.path).read_bytes(), before)
+
     def test_files_that_are_no_collection(self) -> None:
         outcome = self.run_on("--author", "x")
         self.assertEqual(outcome.status, 3)

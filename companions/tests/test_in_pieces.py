@@ -13,7 +13,7 @@ from unittest import mock
 from pops_companions.many import forked
 from pops_companions.report import reader
 from pops_companions.report.reader import ReportReader
-from pops_companions.review import in_pieces, judging
+from pops_companions.review import in_pieces, judging, like_problems
 from pops_companions.show import twins
 from tests import run_here, support
 
@@ -185,7 +185,12 @@ class InPieces(unittest.TestCase):
     def test_problems_that_show_the_same_are_judged_once(self) -> None:
         body = b"title: %d\n" + BOARD + KEY
         self.file.write_bytes(b"".join((b"problem %d\n" + body) % (number, number) for number in range(1, 400)))
-        for module, name, most in ((judging, "judged", 2), (ReportReader, "_items_of", 3), (twins, "_named", 100)):
+        for module, name, most in (
+            (judging, "judged", 2),
+            (like_problems, "has_usual_men", 2),
+            (ReportReader, "_items_of", 3),
+            (twins, "_named", 100),
+        ):
             with pieces_of(8000), mock.patch.object(os, "sched_getaffinity", lambda _: {0}):
                 with mock.patch.object(module, name, autospec=True, side_effect=getattr(module, name)) as made:
                     run_here.companion("pops-test", str(self.file))

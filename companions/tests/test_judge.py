@@ -182,7 +182,7 @@ class Judging(unittest.TestCase):
         program = support.COMPANIONS / "pops-judge"
         slow = self.script("slow", "cat > /dev/null\nexec sleep 6000\n")
         words = [sys.executable, str(program), "--pops", slow, str(self.text), "-o", str(self.sheet)]
-        with subprocess.Popen(words, stderr=subprocess.PIPE, start_new_session=True) as run:
+        with subprocess.Popen([*words, *NO_HURRY], stderr=subprocess.PIPE, start_new_session=True) as run:
             work = Path(f"{self.sheet}.work")
             wait_for((work / "solutions.report.journal").is_file)
             os.killpg(run.pid, signal.SIGINT)
@@ -276,6 +276,19 @@ class Judging(unittest.TestCase):
             path.write_bytes(text)
             self.assertIsNone(folder.kept(path))
 
+    def test_what_is_kept_for_one_problem_is_not_taken_for_another(self) -> None:
+        folder, first, second = WorkFolder(self.room), self.room / "tries-1.txt", self.room / "tries-2.txt"
+        folder.keep(first, b"a text\n")
+        first.rename(second)
+        self.assertIsNone(folder.kept(second))
+        solutions, short = self.room / "solutions.report", self.room / "short.report"
+        solutions.write_bytes(b"a report\n")
+        folder.seal(solutions)
+        self.assertTrue(folder.is_sealed(solutions))
+        for end in ("", ".sum"):
+            Path(f"{solutions}{end}").rename(f"{short}{end}")
+        self.assertFalse(folder.is_sealed(short))
+
     def test_a_program_of_tries_that_fails_is_told(self) -> None:
         dies = self.tries_until_well("dies", "cat > /dev/null\nkill -9 $$\n")
         outcome = self.judged("--pops-tries", dies)
@@ -314,6 +327,8 @@ class Judging(unittest.TestCase):
         for other in (
             TRIES_OF_ONE.replace("#1", "#2"),
             TRIES_OF_ONE.replace("#1", board.decode() + "#1"),
+            TRIES_OF_ONE.replace("Ra1", "Ra2"),
+            TRIES_OF_ONE.replace("Ra1-a8#", "0-0"),
         ):
             with self.subTest(other):
                 lies = self.tries_until_well("lies", f"cat > /dev/null\nprintf '{other}'\n")
@@ -349,6 +364,19 @@ class Judging(unittest.TestCase):
         mark.write_bytes(whole)
         self.text.write_bytes(ONE + TWO)
         self.assertIn("is of another text", self.judged("--resume").error)
+
+    def test_a_program_that_is_changed_during_the_run(self) -> None:
+        """Nothing is kept, so that the next run begins with nothing."""
+        does = {"pops": f"exec '{support.pops()}' \"$@\"\n", "tries": f"cat > /dev/null; printf '{TRIES_OF_ONE}'\n"}
+        for changed in does:
+            paths = {name: self.script(name, text) for name, text in does.items()}
+            new = f"{paths[changed]}.new"
+            self.script(changed, f"{{ cat \"$0\"; echo; }} > '{new}'; chmod +x '{new}'; mv '{new}' \"$0\"\n{does[changed]}")
+            with self.subTest(changed):
+                outcome = self.judged("--jobs", "1", "--pops-tries", paths["tries"], *NO_HURRY, pops=paths["pops"])
+                said = f"{paths[changed]} was changed during the run: nothing is kept, run it again"
+                self.assertEqual(outcome, (6, b"", f"pops-judge: {said}\n"))
+                self.assertEqual(self.files(), ["pops", "some.pop", "tries"])
 
     def test_other_programs_are_not_taken_up(self) -> None:
         work = self.unfinished()

@@ -14,14 +14,17 @@ from unittest import mock
 from pops_companions.many import sessions
 from pops_companions.many.connections import Connections
 from pops_companions.many.machines import bundles_of
-from pops_companions.many.parallel import _LOGIN
+from pops_companions.many.parallel import _LOGIN, Ended, Jobs, Parallel
 from pops_companions.many.tasks import Source, tasks_of
 from tests import run_here, support
 from tests.six_problems import wait_for
+from tests.stand_ins import stand_in
 from tests.test_split_machines import has_gnu_parallel
 
 MATE = "Title {}\nPieces White Kg6 Ra1 Black Kg8\nStipulation #1\n"
 NEXT = "NextProblem\n"
+# What is said of machines whose program has other bytes than the one here.
+ANOTHER = "pops-many: pops on {} is another program than pops here\n"
 # In the place of ssh: notes its words, and runs the command here, for its machine.
 _SSH = """#!/bin/bash
 echo "$*" >> '{room}/logins'
@@ -69,6 +72,12 @@ def command_of(process: int) -> bytes:
         return Path(f"/proc/{process}/cmdline").read_bytes()
     except OSError:
         return b""
+
+
+def end_sleep(process: int) -> None:
+    """Ends a process that sleeps still."""
+    if command_of(process).startswith(b"sleep"):
+        os.kill(process, signal.SIGKILL)
 
 
 class SharedConnections(unittest.TestCase):
@@ -184,7 +193,8 @@ class OnMachines(unittest.TestCase):
         problems = [MATE.format("Bad" if number % 10 == 7 else number) for number in range(40)]
         text = input_of(*problems)
         wanted = support.run([support.pops()], text)
-        self.assertEqual(self.many(text, failing), (0, wanted.output, ""))
+        said = ANOTHER.format("one, two")
+        self.assertEqual(self.many(text, failing), (0, wanted.output, said))
 
     def test_a_machine_without_the_program_is_left_out(self) -> None:
         script = f'[ "$MACHINE" = one ] || exit 127\nexec \'{support.pops()}\' "$@"\n'
@@ -192,7 +202,7 @@ class OnMachines(unittest.TestCase):
         text = input_of(*[MATE.format(number) for number in range(40)])
         outcome = self.many(text, there)
         self.assertEqual((outcome.status, outcome.output), (0, support.run([support.pops()], text).output))
-        self.assertRegex(outcome.error, r"^pops-many: machine two left out: .*\n$")
+        self.assertRegex(outcome.error, rf"^pops-many: machine two left out: .*\n{ANOTHER.format('one')}$")
 
     def test_a_machine_that_floods_is_left_out(self) -> None:
         """It writes lines without end."""
@@ -217,7 +227,142 @@ class OnMachines(unittest.TestCase):
                     outcome = self.many(text, there)
                 wanted = support.run([support.pops()], text).output
                 self.assertEqual((outcome.status, outcome.output), (0, wanted))
-                self.assertRegex(outcome.error, r"^pops-many: machine two failed and is left out: .*\n$")
+                said = rf"^{ANOTHER.format('one, two')}pops-many: machine two failed and is left out: .*\n$"
+                self.assertRegex(outcome.error, said)
+
+    def resumed(self, pops: str, there: str) -> support.Outcome:
+        """A run on a machine that begins a journal or goes on with it."""
+        ssh = self.write("ssh", _SSH.format(room=self.room))
+        report = self.room / "x.report"
+        words = ["--pops", pops, "--remote-pops", there, "--ssh", ssh, "--sshlogin", "one", "--jobs", "1"]
+        words += ["--resume"] * Path(f"{report}.journal").exists()
+        return run_here.companion("pops-many", *words, "-o", str(report), str(self.room / "x.pop"))
+
+    def begun(self) -> str:
+        """A run that a program ended; the program, which now does well and has the same bytes."""
+        does = f'text=$(cat)\ncase $text in *Bad*) {{}} ;; esac\nexec \'{support.pops()}\' "$@" << END\n$text\nEND\n'
+        pops = stand_in(self.room / "pops", does.format("exit 9"))
+        (self.room / "x.pop").write_bytes(input_of(MATE.format("Good"), MATE.format("Bad")))
+        self.assertEqual(self.resumed(pops, pops).status, 6)
+        Path(f"{pops}.sh").write_text(does.format(":"))
+        return pops
+
+    def is_solved(self) -> None:
+        wanted = support.run([support.pops()], (self.room / "x.pop").read_bytes()).output
+        self.assertEqual((self.room / "x.report").read_bytes(), wanted)
+
+    def test_a_machine_with_another_program_than_before_is_left_out(self) -> None:
+        pops = self.begun()
+        other = self.write("other", f"{Path(pops).read_text()}\n")
+        journal = (self.room / "x.report.journal").read_bytes()
+        left_out = "pops-many: machine one left out: pops isn't the one that the run had there\n"
+        said = f"{ANOTHER.format('one')}{left_out}pops-many: no machine is left\n"
+        self.assertEqual(self.resumed(pops, other), (3, b"", said))
+        self.assertEqual((self.room / "x.report.journal").read_bytes(), journal)
+        self.assertEqual(self.resumed(pops, pops), (0, b"", ""))
+        self.is_solved()
+
+    def test_a_machine_without_sha256sum_is_taken(self) -> None:
+        """It isn't known which program it has."""
+        pops = self.begun()
+        (self.room / "bin").mkdir()
+        self.write("bin/sha256sum", "#!/bin/sh\nexit 127\n")
+        said = "pops-many: pops on one can't be compared with pops here\n"
+        with mock.patch.dict(os.environ, {"PATH": f"{self.room}/bin:{os.environ['PATH']}"}):
+            self.assertEqual(self.resumed(pops, pops), (0, b"", said))
+        self.is_solved()
+
+    def test_a_job_that_is_stopped_ends_in_sessions_of_its_own(self) -> None:
+        """Also what it started there without an environment. Another job goes on."""
+        sleeps = f'sh -c "echo \\$\\$ >> {self.room}/$1; exec /bin/sleep 6000"'
+        jobs = Jobs([f"(setsid {sleeps} &); setsid env -i {sleeps}", "job"], ["one", "two"])
+        parallel = Parallel(2, None, print)
+        left: dict[str, list[bytes]] = {}
+
+        def begun(job: str) -> list[int]:
+            path = self.room / job
+            return [int(it) for it in path.read_text().split()] if path.exists() else []
+
+        def look(_: list[Ended]) -> bool:
+            found = {job: begun(job) for job in ("one", "two")}
+            sleeping = [command_of(it).startswith(b"/bin/sleep") for it in sum(found.values(), [])]
+            if len(sleeping) < 4 or not all(sleeping):
+                return True
+            parallel.stop([1])
+            left.update((job, [command_of(it)[:10] for it in of]) for job, of in found.items())
+            return False
+
+        parallel.run([":"], jobs, lambda line: None, look)
+        parallel.close()
+        self.assertEqual(left, {"one": [b""] * 2, "two": [b"/bin/sleep"] * 2})
+
+    def test_a_machine_that_says_nothing_is_left_out(self) -> None:
+        """It takes a login and hangs, also where GNU parallel first asks it how many jobs it takes."""
+        (self.room / "x.pop").write_bytes(input_of(MATE.format(1)))
+        hangs = self.write("hangs", "#!/bin/sh\nsleep 60\n")
+        words = ["--pops", support.pops(), "--sshlogin", "one", "--ssh", hangs, str(self.room / "x.pop")]
+        left_out = "machine one left out: no report came back in 1 s"
+        said = f"pops-many: {left_out}\npops-many: no machine is left\n"
+        for many in (words, ["--jobs", "2", *words]):
+            with self.subTest(many), mock.patch("pops_companions.many.machines.SECONDS_OF_A_PROBE", 1.0):
+                self.assertEqual(run_here.companion("pops-many", *many), (3, b"", said))
+
+    def test_a_machine_that_hangs_later_is_left_out(self) -> None:
+        """It reports the probe, and each login after it has no end, with its reports or without."""
+        text = input_of(*[MATE.format(number) for number in range(2)])
+        (self.room / "x.pop").write_bytes(text)
+        for before in ("", 'bash -c "$*"; '):
+            with self.subTest(before):
+                (self.room / "logins").unlink(missing_ok=True)
+                hangs = f'[ $(wc -l < "{self.room}/logins") = 1 ] || {{ {before}exec sleep 6000; }}\nexec bash'
+                ssh = self.write("hangs", _SSH.format(room=self.room).replace("exec bash", hangs))
+                words = ["--pops", support.pops(), "--remote-pops", support.pops(), "--ssh", ssh, "--jobs", "1"]
+                words += ["--seconds", "1", "--sshlogin", "one", "-o", str(self.room / "x.report"), str(self.room / "x.pop")]
+                with mock.patch("pops_companions.many.machines._SECONDS_OF_A_LOGIN", 1):
+                    outcome = run_here.companion("pops-many", *words)
+                self.assertIn("machine one failed and is left out: no report came back in 2 s\n", outcome.error)
+                self.assertIn(outcome.status, (0, 6) if before else (6,))
+                (self.room / "x.report.journal").unlink(missing_ok=True)
+
+    def test_jobs_of_a_parallel_that_is_killed_end(self) -> None:
+        """What it had at hand is handed out again."""
+        (self.room / "x.pop").write_bytes(input_of(MATE.format("Slow"), MATE.format("other").replace("#1", "h#3")))
+        ended = f"[ -e '{self.room}/again' ] || {{ touch '{self.room}/again'; echo $$ > '{self.room}/at-work'; exec sleep 6000; }}"
+        slow = self.write(
+            "slow",
+            f"#!/bin/sh\ntext=$(cat)\ncase $text in *Slow*) {ended} ;; esac\n"
+            f"printf '%s\\n' \"$text\" | exec '{support.pops()}' \"$@\"\n",
+        )
+        ssh = self.write("ssh", _SSH.format(room=self.room))
+        words = [sys.executable, str(support.COMPANIONS / "pops-many"), "--pops", support.pops(), "--remote-pops", slow]
+        words += ["--ssh", ssh, "--sshlogin", "one", "--jobs", "2", str(self.room / "x.pop")]
+        run = subprocess.Popen(words, stdout=subprocess.PIPE, stderr=subprocess.PIPE)
+        at_work = self.room / "at-work"
+        wait_for(lambda: at_work.exists() and bool(at_work.read_text()))
+        job = int(at_work.read_text())
+        self.addCleanup(end_sleep, job)
+        wait_for(lambda: command_of(job).startswith(b"sleep"))
+        os.kill(os.getsid(job), signal.SIGKILL)
+        output, errors = run.communicate(timeout=support.PATIENCE)
+        self.assertEqual(command_of(job), b"")
+        self.assertEqual((run.returncode, output), (0, support.run([support.pops(), str(self.room / "x.pop")]).output))
+        self.assertIn(b"GNU parallel was ended by signal 9\n", errors)
+
+    def test_a_search_in_a_session_of_its_own_ends_with_the_run(self) -> None:
+        (self.room / "x.pop").write_bytes(input_of(MATE.format("Slow")))
+        at_work = self.room / "at-work"
+        script = f"text=$(cat)\ncase $text in *Slow*) setsid sh -c \"echo \\$\\$ > '{at_work}'; exec sleep 6000\" ;; esac\n"
+        apart = self.write("apart", f"#!/bin/sh\n{script}printf '%s\\n' \"$text\" | exec '{support.pops()}' \"$@\"\n")
+        words = [sys.executable, str(support.COMPANIONS / "pops-many"), "--pops", support.pops(), "--remote-pops", apart]
+        words += ["--sshlogin", ":", "--jobs", "1", "-o", str(self.room / "x.report"), str(self.room / "x.pop")]
+        with subprocess.Popen(words, stderr=subprocess.PIPE) as run:
+            wait_for(lambda: at_work.exists() and bool(at_work.read_text()))
+            job = int(at_work.read_text())
+            self.addCleanup(end_sleep, job)
+            wait_for(lambda: command_of(job).startswith(b"sleep"))
+            run.terminate()
+            run.communicate(timeout=support.PATIENCE)
+        self.assertEqual((run.returncode, command_of(job)), (6, b""))
 
     def test_the_number_of_jobs_that_a_machine_takes(self) -> None:
         """What a machine says without end is cut short."""

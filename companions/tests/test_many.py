@@ -1,5 +1,6 @@
 """Many problems at once: bytes and status as of one run of pops."""
 
+import hashlib
 import io
 import os
 import random
@@ -8,11 +9,13 @@ import subprocess
 import sys
 import tempfile
 import unittest
+import zlib
 from pathlib import Path
 from unittest import mock
 
 from pops_companions.input.pieces import Rest, cut, rest_of
 from pops_companions.many.cutting import Pieces
+from pops_companions.many.identity import Known, identity
 from pops_companions.many.journal import Journal, Origin
 from pops_companions.many.progress import Progress, duration
 from pops_companions.many.tasks import Result, Source, Task
@@ -215,6 +218,21 @@ class Interruptions(SixProblems):
         self.assertEqual(self.report.read_bytes(), self.wanted)
         self.assertFalse(self.journal.exists())
 
+    def test_a_program_that_is_changed_during_the_run(self) -> None:
+        """The reports may be of two programs: they are no report, and no run goes on with them."""
+        pops = self.room / "stand_in"
+        self.stand_in(f"sed '$s/$/ #/' '{pops}' > '{pops}.new'; chmod +x '{pops}.new'; mv '{pops}.new' '{pops}'")
+        before = pops.read_bytes()
+        said = f"pops-many: {pops} was changed during the run: the reports in {self.journal} may be of two programs, remove it\n"
+        self.assertEqual(self.many(str(pops)), (6, b"", said))
+        self.assertFalse(self.report.exists())
+        self.assertNotEqual(pops.read_bytes(), before)
+        for text, why in ((pops.read_bytes(), "another pops"), (before, "a run during which a program was changed")):
+            pops.write_bytes(text)
+            outcome = self.many(str(pops), "--resume")
+            self.assertEqual((outcome.status, outcome.output), (2, b""))
+            self.assertIn(f"{self.journal} is of {why}", outcome.error)
+
     def test_a_cut_report_is_no_report(self) -> None:
         outcome = self.many(self.stand_in("echo 'problem 1'; exit 0"))
         self.assertEqual(outcome.status, 6)
@@ -256,7 +274,7 @@ class Interruptions(SixProblems):
 
     def test_a_journal_of_another_version_is_refused(self) -> None:
         self.many(self.stand_in("kill -9 $$"))
-        journal = self.journal.read_bytes().replace(b"pops-many journal 3 ", b"pops-many journal 2 ")
+        journal = self.journal.read_bytes().replace(b"pops-many journal 4 ", b"pops-many journal 3 ")
         self.journal.write_bytes(journal)
         outcome = self.many(self.stand_in(":"), "--resume")
         self.assertEqual(outcome.status, 2)
@@ -275,6 +293,34 @@ class Interruptions(SixProblems):
         self.addCleanup(again.close, True)
         self.assertEqual([again.is_finished(place) for place in range(4)], [True, True, False, False])
         self.assertEqual(list(again.kept), [0])
+
+    def test_a_record_that_lacks_the_items_of_its_tasks_is_not_taken(self) -> None:
+        """Its checksum is right: somebody made it."""
+        index = self.report.with_suffix(".index")
+        wanted = self.many(support.pops(), "--index", str(index))
+        rows = index.read_bytes()
+        self.many(self.stand_in("kill -9 $$"))
+        head = self.journal.read_bytes().partition(b"\n")[0] + b"\n"
+        for text in (b"\n" * 12, b"problem 1\n\n" * 7, b"problem 1\n\n" * 6 + b"x", b"problem 1"):
+            with self.subTest(text):
+                line = b"tasks 0 number 6 status 0 bytes %d" % len(text)
+                self.journal.write_bytes(head + line + b" sum %d\n" % zlib.crc32(line + text) + text)
+                self.assertEqual(self.many(self.stand_in(":"), "--resume", "--index", str(index)), wanted)
+                self.assertEqual((self.report.read_bytes(), index.read_bytes()), (self.wanted, rows))
+
+    def test_solutions_beside_a_private_report_are_private(self) -> None:
+        rest = Path(f"{self.report}.unfinished")
+        self.report.write_bytes(b"older")
+        for mode in (0o600, 0o640, 0o644):
+            with self.subTest(oct(mode)):
+                self.report.chmod(mode)
+                slow = self.stand_in("cat > /dev/null; printf 'problem 1\\n'; exec sleep 6000")
+                outcome = self.many(slow, "--seconds", "1", "--jobs", "6")
+                self.assertEqual(outcome.status, 6)
+                modes = [it.stat().st_mode & 0o777 for it in (self.report, self.journal, rest)]
+                self.assertEqual(modes[1:], [0o600, mode])
+                for path in (self.journal, rest):
+                    path.unlink()
 
     def test_another_runs_journal_is_refused(self) -> None:
         self.many(self.stand_in("kill -9 $$"))
@@ -301,6 +347,27 @@ class Interruptions(SixProblems):
         self.assertEqual(self.many(str(moved), "--resume"), (0, b"", ""))
         self.assertEqual(self.report.read_bytes(), self.wanted)
 
+    def test_a_journal_of_another_program_that_a_script_names_is_refused(self) -> None:
+        """The script stays the same."""
+        real = self.room / "real"
+        Path(self.stand_in("kill -9 $$")).rename(real)
+        text = real.read_text()
+        pops = self.room / "stand_in"
+        for words in (f"exec '{real}'", f'exec "{real}"', f"nice {real}"):
+            with self.subTest(words):
+                pops.write_text(f'#!/bin/sh\n{words} "$@"\n')
+                pops.chmod(0o755)
+                self.stand_in_does("kill -9 $$")
+                self.assertEqual(self.many(str(pops)).status, 6)
+                self.stand_in_does(":")
+                real.write_text(f"{text}\n")
+                outcome = self.many(str(pops), "--resume")
+                self.assertEqual(outcome.status, 2)
+                self.assertIn("is of another pops: name that one with --pops, or remove it", outcome.error)
+                real.write_text(text)
+                self.assertEqual(self.many(str(pops), "--resume"), (0, b"", ""))
+                self.assertEqual(self.report.read_bytes(), self.wanted)
+
     def test_without_an_output_file_the_reports_are_kept_too(self) -> None:
         words = ["--pops", self.stand_in("kill -9 $$"), "--jobs", "1", str(self.input)]
         outcome = support.companion("pops-many", *words)
@@ -311,6 +378,76 @@ class Interruptions(SixProblems):
         words = ["--pops", self.stand_in(":"), "--resume", "--journal", journal, str(self.input)]
         self.assertEqual(support.companion("pops-many", *words), (0, self.wanted, ""))
         self.assertFalse(os.path.exists(journal))
+
+
+class Identity(unittest.TestCase):
+    def setUp(self) -> None:
+        room = tempfile.TemporaryDirectory()
+        self.addCleanup(room.cleanup)
+        self.room = Path(room.name)
+
+    def write(self, name: str, text: str) -> str:
+        path = self.room / name
+        path.write_text(text)
+        path.chmod(0o755)
+        return str(path)
+
+    def test_a_program_is_its_bytes(self) -> None:
+        own = hashlib.sha256(Path(support.pops()).read_bytes()).hexdigest()
+        self.assertEqual(identity(support.pops()), own)
+        link = self.room / "link"
+        link.symlink_to(support.pops())
+        self.assertEqual(identity(str(link)), own)
+
+    def test_a_script_is_also_what_it_names(self) -> None:
+        real = self.write("pops-real", "1")
+        for words in (f"exec {real}", f"P='{real}'; \"$P\"", f'(nice "{real}")', "pops-real"):
+            script = self.write("script", f'#!/bin/sh\n{words} "$@" # \0 /nowhere /\n')
+            with mock.patch.dict(os.environ, {"PATH": str(self.room)}):
+                before = identity(script)
+                self.write("pops-real", "2")
+                self.assertNotEqual(identity(script), before, words)
+                self.write("pops-real", "1")
+                self.assertEqual(identity(script), before)
+
+    def test_a_script_names_programs_in_its_own_folder(self) -> None:
+        """The shell alone knows the whole path."""
+        (self.room / "bin").mkdir()
+        words = ['"$(dirname "$0")/real"', '"$here"/real', "${HOME}/real", "~/real", "`dirname $0`/bin/real"]
+        for word in words:
+            real = "bin/real" if "bin" in word else "real"
+            self.write(real, "1")
+            link = self.room / "bin" / "link"
+            link.unlink(missing_ok=True)
+            script = self.write("script", f'#!/bin/sh\nexec {word} "$@"\n')
+            link.symlink_to(script)
+            for program in (script, str(link)):
+                with self.subTest(word, program=program), mock.patch.dict(os.environ, {"HOME": str(self.room)}):
+                    before = Known(program)
+                    self.assertFalse(before.is_changed)
+                    self.write(real, "2")
+                    self.assertNotEqual(identity(program), before.identity)
+                    self.assertTrue(before.is_changed)
+                    self.write(real, "1")
+                    self.assertFalse(before.is_changed)
+
+    def test_scripts_that_name_each_other(self) -> None:
+        names = [str(self.room / str(number)) for number in range(100)]
+        for number in range(100):
+            self.write(str(number), f"#!/bin/sh\n{' '.join(names)}\n")
+        before = identity(names[0])
+        self.write("1", "#!/bin/sh\n")
+        self.assertNotEqual(identity(names[0]), before)
+
+    def test_a_script_that_names_the_script_of_a_repository(self) -> None:
+        """It is the program of that."""
+        script = self.write("script", f"#!/bin/sh\n'{support.REPOSITORY}/pops' \"$@\"\n")
+        with mock.patch("pops_companions.many.identity.without_script") as found:
+            found.return_value = self.write("real", "1")
+            before = identity(script)
+            self.write("real", "2")
+            self.assertNotEqual(identity(script), before)
+        found.assert_called_with(f"{support.REPOSITORY}/pops", "pops")
 
 
 class Command(unittest.TestCase):

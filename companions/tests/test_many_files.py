@@ -4,10 +4,12 @@ import subprocess
 import sys
 import unittest
 from pathlib import Path
+from unittest import mock
 
 from pops_companions.commands.many import name_of_run
+from pops_companions.many.joining import Joined
 from pops_companions.many.targets import Target
-from tests import support
+from tests import run_here, support
 from tests.six_problems import SIX, SixProblems
 
 FAULTY = b"BeginProblem\nPieces White Kg6\n\n\nNextProblem\nPieces White Ka1 x\nEndProblem\n"
@@ -176,6 +178,19 @@ class Several(SixProblems):
         self.assertIn("6 of 6 problems are done and kept in", outcome.error)
         words = ["-o", str(self.report), "--journal", str(self.journal), str(self.input)]
         self.assertEqual(self.each(*words, "--resume"), (0, b"", ""))
+        self.assertEqual(self.report.read_bytes(), self.wanted)
+
+    def test_a_report_that_would_lack_problems_is_never_complete(self) -> None:
+        """Problems are counted as done before they are: the run keeps them, and says so."""
+        words = self.words(support.pops())
+        too_early = mock.patch.object(Joined, "begin", lambda joined: joined.settle(0, 6))
+        with too_early:
+            outcome = run_here.companion("pops-many", *words)
+        said = f"6 of 6 problems are done and kept in {self.journal}: go on with --resume"
+        error = f"pops-many: {said} --journal {self.journal}\n"
+        self.assertEqual(outcome, (6, b"", error))
+        self.assertEqual(self.files(), ["fau lty.in", "six.report.journal"])
+        self.assertEqual(run_here.companion("pops-many", *words, "--resume"), (0, b"", ""))
         self.assertEqual(self.report.read_bytes(), self.wanted)
 
     def test_a_journal_that_is_removed_or_replaced_meanwhile(self) -> None:

@@ -4,11 +4,14 @@ import tempfile
 import unittest
 from collections.abc import Iterator
 from pathlib import Path
+from unittest import mock
 
 from pops_companions.chess.attacks import Men
 from pops_companions.chess.men import Colour
 from pops_companions.find.entries import men_in
-from pops_companions.review.mates import Mate, keywords_of, mate_of
+from pops_companions.report.items import HelpLine, SoundItem
+from pops_companions.report.reader import read_report
+from pops_companions.review.mates import Mate, keywords_of, mate_of, mates_of
 from tests import run_here, support
 
 
@@ -23,6 +26,19 @@ def mate(text: str) -> Mate:
 
 
 class Mates(unittest.TestCase):
+    def test_a_position_is_looked_at_once(self) -> None:
+        """However many lines end in it."""
+        text = b"BeginProblem Pieces White Kc3 Ra1 Black Kb8 Stipulation h#3.5 EndProblem"
+        (item,) = read_report([support.run([support.pops()], text).output])
+        assert isinstance(item, SoundItem) and item.phases and item.board
+        lines = [it for it in item.phases[0].solutions if isinstance(it, HelpLine)]
+        with mock.patch("pops_companions.review.mates.mate_of", wraps=mate_of) as looked:
+            mates = list(mates_of(item.board.men, lines, Colour.BLACK))
+        self.assertEqual(len(mates), len(lines))
+        positions = [frozenset(call.args[0].items()) for call in looked.call_args_list]
+        self.assertEqual(len(set(positions)), len(positions))
+        self.assertLess(len(positions), len(lines))
+
     def test_names(self) -> None:
         for text, wanted in (
             # The king guards a7 and b7, the rook b8 and, through the king, gives check.

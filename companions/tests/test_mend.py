@@ -7,14 +7,17 @@ import tempfile
 import unittest
 from collections.abc import Callable
 from pathlib import Path
+from typing import Optional
 from unittest import mock
 
 from pops_companions.explain import mending
+from pops_companions.explain.near import Edit
 from pops_companions.explain.explaining import explanation
 from pops_companions.explain.mended_text import mend
 from pops_companions.explain.mending import further_faults
 from pops_companions.explain.notices import notices
 from pops_companions.input.pieces import cut
+from pops_companions.input.reading import Reading, read_on, read_piece
 from tests import run_here, support
 from tests.slips import slips
 
@@ -52,6 +55,17 @@ class Mending(unittest.TestCase):
         self.assertEqual((made.mended, made.left), (599, 0))
         made = mend(text_of(PIECES, "Stipulation mate") + text_of("Titel A", PIECES, "Stipulation #1"))
         self.assertEqual((made.mended, made.left), (2, 1))
+
+    def test_a_denial_far_away(self) -> None:
+        """Only words near an edit of a line say that another problem may be meant."""
+        for words, mended in ((10, 0), (1000, 1)):
+            text = text_of(PIECES, "Stipulation #1", f"Option SetPlay,Variation{' SetPlay' * words} not")
+            self.assertEqual(mending.edit_for(text, 1, self.reading(text)) is not None, bool(mended))
+
+    def reading(self, text: bytes) -> Reading:
+        reading = mending.read_number(text, 1)
+        assert reading is not None
+        return reading
 
     def test_what_is_written(self) -> None:
         for wrong, right in (
@@ -494,6 +508,43 @@ def calls_of(done: Callable[[], object]) -> int:
     return calls
 
 
+class GoingOn(unittest.TestCase):
+    """A reading that goes on where an edit is finds what one from the beginning does."""
+
+    def test_every_slip(self) -> None:
+        edits = 0
+        for slip in slips():
+            text, reading = slip.text, mending.read_number(slip.text, 1)
+            for _ in range(mending.MOST_FAULTS):
+                edit = None if reading is None else self.edit_of(text, reading)
+                if reading is None or edit is None:
+                    break
+                edits += 1
+                text, before = edit.of(text), reading.before_fault()
+                reading = mending.read_number(text, 1)
+                if reading is not None and before.stays(text, edit.span.start):
+                    found = read_on(text, before)
+                    # (what was awaited before the last word counts only for a faulty one)
+                    found.awaited_before, found.option_before = reading.awaited_before, reading.option_before
+                    self.assertEqual(found, reading, slip.text)
+        self.assertGreater(edits, 150)
+
+    def edit_of(self, text: bytes, reading: Reading) -> Optional[Edit]:
+        """Mends the fault, or leaves its word out."""
+        if reading.number is None:
+            return None
+        edit = mending.edit_for(text, 1, reading)
+        return edit if edit is not None or reading.at is None else Edit(reading.word.span, b"")
+
+    def test_what_stays(self) -> None:
+        text = text_of(PIECES, "Title a", "xyz #2")
+        reading = mending.read_number(text, 1)
+        assert reading is not None
+        before, end = reading.before_fault(), text.index(b"\nxyz")
+        self.assertTrue(before.stays(text, end + 1) and before.stays(text[:end] + b"\n", end))
+        self.assertFalse(before.stays(text, end - 1) or before.stays(text[:end] + b" b\n", end))
+
+
 class Work(unittest.TestCase):
     """Four times the problems take four times the calls, however the problems are divided."""
 
@@ -528,6 +579,19 @@ class Work(unittest.TestCase):
                 self.assertEqual(len(list(further_faults(text, pieces, piece.number))), 1)
 
         self.is_linear(made, work)
+
+    def test_a_long_line(self) -> None:
+        """The faults of a problem cost one reading of it, not one for each."""
+        head = ["Pieces White Kg6 Ra1 Black Kg8", "Stipulation #1"]
+        for word, work in (
+            ("xyz", lambda text: self.assertEqual(len(list(further_faults(text, cut(text), 1))), 49)),
+            ("SetPlay,Variation", lambda text: self.assertEqual(mend(text).mended, 50)),
+        ):
+            text = text_of(*head, f"Option{' SetPlay' * 20_000}{f' {word}' * 60}")
+            piece = cut(text)[0]
+            once = calls_of(lambda text=text, piece=piece: read_piece(text, piece))  # type: ignore[misc]
+            with self.subTest(word):
+                self.assertLess(calls_of(lambda text=text, work=work: work(text)), 4 * once)  # type: ignore[misc]
 
     def test_the_command(self) -> None:
         """As text and as JSON."""

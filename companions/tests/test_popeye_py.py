@@ -107,6 +107,24 @@ class Command(unittest.TestCase):
         self.assertEqual(outcome.status, 1)
         self.assertIn(b"\nPartial solution Time = ", outcome.output)
 
+    def test_time_that_ends_before_a_problem_is_shown(self) -> None:
+        """The next problem is solved."""
+        program = find_tries(None, support.pops())
+        text = f"{MORPHY}NextProblem\n{MORPHY[13:]}EndProblem\n"
+        with tempfile.TemporaryDirectory() as room:
+            slow = Path(room) / "tries"
+            slow.write_text(f"#!/bin/sh\nmkdir '{room}/begun' || exec '{program}' \"$@\"\nexec sleep 9999\n")
+            slow.chmod(0o755)
+            # (on a busy machine it takes longer to solve the other)
+            for seconds in ("2", "20", "400"):
+                outcome = solved(text, "-maxtime", seconds, "--pops-tries", str(slow))
+                if outcome.output:
+                    break
+                (Path(room) / "begun").rmdir()
+        self.assertEqual(outcome.status, 1)
+        self.assertEqual(outcome.error, "popeye-py: problem 1: left out: the time is over\n")
+        self.assertEqual(outcome.output.count(b"solution finished."), 1)
+
     def test_time_that_no_clock_holds(self) -> None:
         outcome = solved(f"{MORPHY}EndProblem\n", "-maxtime", "9" * 17)
         self.assertEqual((outcome.status, outcome.error), (0, ""))

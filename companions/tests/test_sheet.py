@@ -829,6 +829,33 @@ class Command(Case):
         self.assertEqual(refused.status, 3)
         self.assertIn("given.report is no report of pops: line 1: ", refused.error)
 
+    def test_texts_with_moves_of_men_that_are_elsewhere(self) -> None:
+        text = b"BeginProblem Pieces White Kg6 Ra1 Black Kh8 Stipulation %s Option SetPlay Variation EndProblem"
+        report, tries, empty = self.room / "given.report", self.room / "given.tries", self.room / "empty"
+        empty.touch()
+        cases = (
+            (b"h#1", b"1.Kh8-g8", b"1.Kh7-g8", "report"),
+            (b"h#1", b"g8 Ra1-a8", b"g8 Rb1-a8", "report"),
+            (b"h#1", b"1...Ra1", b"1...Ra2", "report"),
+            (b"#2", b"  2.Ra1-a8", b"  2.Rb1-a8", "report"),
+            (b"#2", b"1.Ra1-b1", b"1.Ra2-b1", "text of tries"),
+            (b"#2", b"  2.Ra1-a8", b"  2.Rb1-a8", "text of tries"),
+        )
+        for asked, move, other, name in cases:
+            with self.subTest(move, name=name):
+                problem = text % asked
+                wholes = {report: support.run([support.pops()], problem).output, tries: tries_of(problem)}
+                changed = report if name == "report" else tries
+                self.assertIn(move, wholes[changed])
+                report.write_bytes(wholes[report])
+                tries.write_bytes(wholes[tries])
+                words = ["--to", "text", "--report", str(report), "--tries-text"]
+                self.assertEqual(self.made(problem, *words, str(tries)).status, 0)
+                changed.write_bytes(wholes[changed].replace(move, other))
+                refused = self.made(problem, *words, str(empty if changed == report else tries))
+                said = f"pops-sheet: the {name} isn't that of the input: problem 1 differs\n"
+                self.assertEqual(refused, (3, b"", said))
+
     def test_a_report_of_more_problems(self) -> None:
         """It is refused before pops-tries runs."""
         report = self.room / "given.report"

@@ -273,6 +273,12 @@ class Inputs(unittest.TestCase):
             "h#1": [],
             "h=2.5": ["h=0.5", "h=1.5"],
             "h#0.5": [],
+            "h#15.5": [f"h#{it}.5" for it in range(15)],
+            "h#16": [f"h#{it}" for it in range(1, 16)],
+            "s#16": ["s#15"],
+            "h#16.5": [],
+            "h#17": [],
+            "#999": [],
         }
         for text, wanted in cases.items():
             with self.subTest(text):

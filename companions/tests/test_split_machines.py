@@ -1,6 +1,7 @@
 """pops-many --split on other machines: parts that fail there, limits, and what is found of them."""
 
 import os
+import re
 import shutil
 import signal
 import time
@@ -36,6 +37,11 @@ class Machines(SplitRoom):
 
     def setUp(self) -> None:
         super().setUp()
+        # (a busy machine takes no probe to the end of this time)
+        for module in ("machines", "remote_parts"):
+            patch = mock.patch(f"pops_companions.many.{module}.SECONDS_OF_A_PROBE", float(support.PATIENCE))
+            patch.start()
+            self.addCleanup(patch.stop)
         self.where = f"problem 1 ({self.input}, line 1)"
 
     def words_there(self, pops_part: str, *more: str, logins: str = "one,2/two") -> list[str]:
@@ -46,6 +52,10 @@ class Machines(SplitRoom):
 
     def there(self, pops_part: str, *more: str, logins: str = "one,2/two") -> support.Outcome:
         return support.companion("pops-many", *self.words_there(pops_part, *more, logins=logins))
+
+    def said(self, outcome: support.Outcome) -> str:
+        """What a run said, but for how far it was: that is said on a busy machine."""
+        return re.sub(r"(?m)^pops-many: problem .*: (?:about )?\d+ of \d+ first moves.*\n", "", outcome.error)
 
     def is_solved(self, outcome: support.Outcome) -> None:
         self.assertEqual((outcome.status, outcome.output), (0, b""), outcome.error)
@@ -60,7 +70,7 @@ class Fails(Machines):
         outcome = self.there(self.pops_part("problem-play-2", then))
         self.is_solved(outcome)
         self.assertRegex(
-            outcome.error,
+            self.said(outcome),
             r"^pops-many: part 2 of the play of problem 1 \(.*, line 1\) failed on machine (one|two):"
             r" tried elsewhere: pops-part ended with status 7\n$",
         )
@@ -96,7 +106,7 @@ class Fails(Machines):
                 outcome = self.flooded("problem-play-2", f"if {once}; then {flood}; fi", "one,2/two")
                 self.is_solved(outcome)
                 self.assertRegex(
-                    outcome.error,
+                    self.said(outcome),
                     r"^pops-many: part 2 of the play of problem 1 \(.*, line 1\) failed on machine (one|two):"
                     r" tried elsewhere: it wrote more than \d+ MiB\n$",
                 )
@@ -157,6 +167,28 @@ class Fails(Machines):
         outcome = self.there(self.pops_part(), logins="one")
         self.is_solved(outcome)
         self.assertEqual(outcome.error, "")
+
+    def test_a_machine_that_hangs_at_its_probe_is_left_out(self) -> None:
+        words = self.words_there(self.pops_part("probe-*", 'if [ "$MACHINE" ]; then sleep 6000; fi'))
+        with mock.patch("pops_companions.many.remote_parts.SECONDS_OF_A_PROBE", 1.0):
+            outcome = run_here.companion("pops-many", *words)
+        left_out = [f"machine {it} left out: no report came back in 1 s" for it in ("one", "2/two")]
+        said = "".join(f"pops-many: {it}\n" for it in [*left_out, "no machine is left"])
+        self.assertEqual(outcome, (3, b"", said))
+
+    def test_a_machine_with_another_pops_part_than_before_is_left_out(self) -> None:
+        first = self.pops_part("problem-play-*", "touch '{0}/failed'; kill -9 0".format(self.room))
+        self.assertEqual(self.there(first, logins="one").status, 6)
+        program = self.pops_part()
+        other = self.write("other", f"{Path(program).read_text()}\n")
+        words = self.words_there(program, "--resume", logins="one")
+        outcome = support.companion("pops-many", *words[:-1], other)
+        another = "pops-part on one is another program than pops-part here"
+        left_out = "machine one left out: pops-part isn't the one that the run had there"
+        said = "".join(f"pops-many: {it}\n" for it in (another, left_out, "no machine is left"))
+        self.assertEqual(outcome, (3, b"", said))
+        Path(other).unlink()
+        self.is_solved(self.there(program, "--resume", logins="one"))
 
     def test_without_a_machine_the_rest_stays_for_resume(self) -> None:
         # (the parts of the set play are kept before a machine fails)

@@ -6,6 +6,9 @@ import sys
 import time
 import unittest
 
+from pops_companions.many.identity import identity
+from pops_companions.many.journal import Journal, Origin, fingerprint
+from pops_companions.many.tasks import UNFINISHED, Result, Source, tasks_of
 from tests import run_here, support
 from tests.six_problems import SIX, wait_for
 from tests.split_room import SplitRoom
@@ -214,6 +217,33 @@ class Ends(SplitRoom):
                 self.assertEqual(again, {"play-5"})
                 self.assertEqual(self.files(), ["six.report"])
                 self.forget()
+
+    def test_a_faulty_problem_that_took_long_is_settled_once(self) -> None:
+        """A run was stopped between the limit of a faulty problem and its check."""
+        faulty = b"NextProblem\nPieces White Kg6 R Black Kg8\nStipulation #1\nEndProblem\n"
+        text = self.input.read_bytes().replace(b"EndProblem\n", faulty)
+        self.input.write_bytes(text)
+        wanted = support.run([support.pops(), str(self.input)]).output
+        source = Source(str(self.input), text)
+        pops = identity(str(self.room / "stand_in")).encode("ascii")
+        journal = Journal(str(self.journal), Origin(fingerprint([source], []), pops), False, 2, None)
+        for task in tasks_of([source]):
+            journal.keep(Result(task, UNFINISHED, b"", 1000.0))
+        journal.close(kept=True)
+        self.assertEqual(self.split(self.pops_part(), "--resume"), (1, b"", ""))
+        self.assertEqual(self.report.read_bytes(), wanted)
+        self.assertEqual(self.files(), ["six.report"])
+
+    def test_a_journal_of_another_pops_part_is_refused(self) -> None:
+        self.interrupted(signal.SIGTERM)
+        journal, program = self.journal.read_bytes(), self.pops_part()
+        other = self.write("other", f"#!/bin/sh\n. '{program}.sh'\n\n")
+        said = "is of another pops-part: name that one with --pops-part, or remove it"
+        refused = (2, b"", f"pops-many: {self.journal} {said}\n")
+        self.assertEqual(self.split(other, "--resume"), refused)
+        self.assertEqual(self.journal.read_bytes(), journal)
+        self.assertEqual(self.split(program, "--resume"), (0, b"", ""))
+        self.assertEqual(self.report.read_bytes(), self.wanted)
 
     def test_without_a_report_it_is_kept_beside_the_journal(self) -> None:
         program = self.stops_at_the_fifth()

@@ -4,6 +4,7 @@
  *   calls report|check|no-board
  *   calls tries REFUTATIONS
  *   calls list DEPTH
+ *   calls faults
  *   calls part|set-part DEPTH NUMBER
  *   calls too-small
  */
@@ -38,6 +39,8 @@ static void *make_call(void *given) {
         call->status = pops_tries(false, (uint32_t)number(2), input, input_length, out, POPS_ROOM, written);
     else if (strcmp(name, "list") == 0)
         call->status = pops_list(number(2), input, input_length, out, POPS_ROOM, written);
+    else if (strcmp(name, "faults") == 0)
+        call->status = pops_faults(input, input_length, out, POPS_ROOM, written);
     else if (strstr(name, "part") != NULL)
         call->status = pops_part(name[0] == 's', number(2), number(3), input, input_length, out, POPS_ROOM, written);
     else {

@@ -5,7 +5,7 @@ import { test } from 'node:test';
 import { makeDocument } from '../helpers/page_imports.mjs';
 
 makeDocument();
-const { explain, explanationOf, faultsOf, markedLines, mendedProblem, shown } = await import('../../web/explaining.js');
+const { explain, explainFault, explanationOf, faultsOf, markedLines, mendedProblem, placesOf, shown } = await import('../../web/explaining.js');
 const { ownAdvice } = await import('../../web/faults.js');
 const { companions } = await import('../../web/out/companions.js');
 const { DATA, sentence } = companions;
@@ -13,6 +13,7 @@ const { py } = await import('../../web/python.js');
 const { imported } = await import('../../web/importing.js');
 const { documents } = await import('../../web/yaml.js');
 const { contentsOf, twinsOf } = await import('../../web/contents.js');
+const { lineAt, lineOf, problemsOf } = await import('../../web/text.js');
 const { knownMen, knownSide } = await import('../../web/items.js');
 const { givenOf } = await import('../../web/outputs.js');
 
@@ -67,6 +68,49 @@ test('explaining: a later problem with the word before it; a fault far down is n
   const long = posed(...Array(20000).fill('Remark a'), 'x');
   assert.equal(explain(long, { number: 1, fault: { line: 20002, number: 2 } }), null);
   assert.equal(explain(posed('x'), { number: 1, fault: { line: 2, number: 2 } }).marks[0].from, 'BeginProblem\n'.length);
+});
+
+test('explaining: only at the place where the engine finds the fault', () => {
+  const text = posed('Title Ä б 😀', 'Pieces White Kg6 Ra1 Black Kg8 xÄ1', 'Stipulation #1', 'NextProblem', 'Ö', 'NextProblem');
+  const placeOf = word => new TextEncoder().encode(text.slice(0, text.indexOf(word))).length;
+  const [first, second] = [placeOf('xÄ1'), placeOf('Ö')];
+  const list = `1: fault 2, line 3, bytes ${first} up to ${first + 4}\n2: fault 2, line 6, bytes ${second} up to ${second + 2}\n`;
+  const places = placesOf(text, list);
+  assert.deepEqual([...places].map(([number, { from, to }]) => [number, text.slice(from, to)]), [[1, 'xÄ1'], [2, 'Ö']]);
+  const faults = [{ number: 1, fault: { line: 3, number: 2 } }, { number: 2, fault: { line: 6, number: 2 } }];
+  for (const item of faults) {
+    const { from, to } = places.get(item.number);
+    assert.deepEqual(explain(text, { ...item, place: { from, to } }), explain(text, item));
+    assert.equal(explain(text, { ...item, place: { from: from - 1, to } }), null);
+    assert.equal(explain(text, { ...item, place: { from, to: to + 1 } }), null);
+  }
+  const open = 'BeginProblem\nTitle é\n';
+  const end = { number: 1, fault: { line: 3, number: 19 }, place: placesOf(open, '1: fault 19, line 3, bytes 22 up to 22\n').get(1) };
+  assert.deepEqual([end.place, explain(open, end)?.text], [{ from: 21, to: 21 }, explain(open, { ...end, place: undefined }).text]);
+});
+
+test('explaining: a long problem in several steps, whose text is cut into problems once', () => {
+  const text = posed('Pieces White Kg6 Ra1 Black Kg8', 'Stipulation #1', `Option${' SetPlay'.repeat(10000)} xyz`);
+  const item = { number: 1, fault: { line: 4, number: 2 } };
+  const steps = explainFault(text, item);
+  let count = 0;
+  let next = steps.next();
+  for (; !next.done; next = steps.next()) count++;
+  assert.ok(count > 5, `${count} steps`);
+  assert.deepEqual(next.value, explain(text, item));
+  assert.deepEqual(next.value.marks.map(({ from, to }) => text.slice(from, to)), ['xyz']);
+  assert.equal(problemsOf(text), problemsOf(text));
+});
+
+test('explaining: lines and their places, and texts with other letters', () => {
+  const text = 'a\n\nбc\n';
+  assert.deepEqual([0, 1, 2, 3, 5, 6].map(place => lineOf(text, place)), [1, 1, 2, 3, 3, 4]);
+  assert.deepEqual([1, 2, 3, 4, 5].map(line => lineAt(text, line)), [[0, 1], [2, 2], [3, 5], [6, 6], [6, 6]].map(([from, to]) => ({ from, to })));
+  const long = `${'б'.repeat(20000)}\ud800`;
+  assert.equal(py.decode(py.encode(long, 'utf-8'), 'utf-8'), `${'б'.repeat(20000)}\ufffd`);
+  assert.deepEqual([py.count('abab', 'ab'), py.count('abab', 'b', 0, 2), py.count('', 'a')], [2, 1, 0]);
+  const keys = py.dict([["'a", 1], ['a', 2], ['(a', 3]]);
+  assert.deepEqual(["'a", 'a', '(a', "''a"].map(key => keys.get(key)), [1, 2, 3, null]);
 });
 
 test('explaining: punctuation', () => {

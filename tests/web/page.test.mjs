@@ -19,7 +19,7 @@ const { makeProblem, move, solveFromHere } = await import('../../web/line.js');
 const { Notes } = await import('../../web/notes.js');
 const { showAge } = await import('../../web/page/age.js');
 const { doChore } = await import('../../web/page/beside.js');
-const { changeBoard, endTyping, goSteps, goToProblem, setText, takeFen, takeText } = await import('../../web/page/editing.js');
+const { changeBoard, endTyping, goSteps, goToProblem, keepText, setText, takeFen, takeText } = await import('../../web/page/editing.js');
 const { markFaults, unmarkFaults } = await import('../../web/page/faults.js');
 const { fieldChanged } = await import('../../web/page/fields.js');
 const { listenToFiles } = await import('../../web/page/files.js');
@@ -33,10 +33,10 @@ const { blockNow, state, textNow } = await import('../../web/page/state.js');
 const { sayAsked, sayCondition, sayFault, sayTotal } = await import('../../web/names.js');
 const { companions } = await import('../../web/out/companions.js');
 const { givenOf, sheetOf, shortText } = await import('../../web/outputs.js');
-const { keep, kept: keptValue } = await import('../../web/page/storage.js');
+const { keep, keepInTab, kept: keptValue } = await import('../../web/page/storage.js');
 const { buildSwitches } = await import('../../web/page/switches.js');
 const views = await import('../../web/page/views.js');
-const { beginVisit, drawVisit, openLink, storeVisit } = await import('../../web/page/visit.js');
+const { askToStay, beginVisit, drawVisit, openLink, sayUnkept, storeVisit } = await import('../../web/page/visit.js');
 const { leave, showPlace } = await import('../../web/page/walk.js');
 const { fillPrint } = await import('../../web/printing.js');
 const { fragmentOf } = await import('../../web/store.js');
@@ -127,6 +127,32 @@ test('storage: kept, removed, and refused by the browser', () => {
   globalThis.localStorage = localStorage;
 });
 
+/** Does something in a browser whose storages have room for so many letters of a value. */
+function withRoom(letters, act) {
+  const both = [localStorage, sessionStorage].map(storage => ({ storage, setItem: storage.setItem }));
+  for (const { storage, setItem } of both) {
+    storage.setItem = (name, value) => {
+      if (value.length > letters) throw new Error('no room');
+      setItem(name, value);
+    };
+  }
+  try {
+    act();
+  } finally {
+    for (const { storage, setItem } of both) storage.setItem = setItem;
+  }
+}
+
+test('storage: without room the older value stays', () => {
+  for (const [store, map] of [[keep, kept], [keepInTab, keptInTab]]) {
+    store('a', 'old');
+    withRoom(5, () => assert.deepEqual([store('a', 'too long'), store('b', 'short')], [false, true]));
+    assert.deepEqual([map.get('a'), map.get('b')], ['old', 'short']);
+    for (const name of ['a', 'b']) assert.equal(store(name, null), true);
+    assert.equal(map.has('a') || map.has('b'), false);
+  }
+});
+
 test('editing: board, FEN, undo and redo', () => {
   begin(TEXT);
   changeBoard('mirror');
@@ -207,6 +233,19 @@ test('files: a long text of Popeye is put in where the caret was, or is by then 
   element('text').setSelectionRange(TEXT.length + 1, TEXT.length + 1);
   second.answer();
   assert.equal(textNow(), `${TEXT}\n${made}`);
+});
+
+test('files: a long text of Popeye is left out, with a note, where another text as a whole has replaced the one that it was pasted into', () => {
+  const long = POPEYE.replace('Forderung', `${'\n'.repeat(6000)}Forderung`);
+  begin(TEXT);
+  element('text').setSelectionRange(TEXT.length, TEXT.length);
+  const [late, again] = helpersOf(() => [pasteIntoBox(long), pasteIntoBox(long)]);
+  takeText(TWO_MOVES);
+  late.answer();
+  assert.deepEqual([textNow(), noteNow()], [TWO_MOVES, say('importLate')]);
+  goSteps(-1);
+  again.answer();
+  assert.equal(textNow(), TEXT + TEXT.replace('Ra1', 'Ra2'));
 });
 
 test('files: a text dropped into the text box among one\'s own is left to the browser', () => {
@@ -307,6 +346,48 @@ test('reporting: the new part of a report is drawn', () => {
   drawGrowth();
   assert.equal(element('report').textContent, REPORT);
   assert.equal(element('tree').textContent.includes('1.Ra1-a8#'), true);
+});
+
+const SQUARES = [...'abcdefgh'].flatMap(file => [...'12345678'].map(rank => file + rank)).slice(1);
+// Sixty-three first moves with sixty-three replies to each.
+const MANY_LINES = SQUARES.flatMap(one => SQUARES.map(next => `1.Ka1-${one} Qa1-${next}#\n`));
+const MANY = `problem 1\nh#1\nplay\n${MANY_LINES.join('')}solutions: ${MANY_LINES.length}\n\n`;
+
+test('reporting: a long report is shown a number of lines at a time, and saved whole', () => {
+  const linesShown = () => element('report').textContent.split('\n').length - 1;
+  begin(TEXT, MANY);
+  assert.deepEqual([linesShown(), element('moreReport').hidden], [2000, false]);
+  element('moreReport').click();
+  assert.deepEqual([element('report').textContent, element('moreReport').hidden], [MANY, true]);
+  beginReport(TEXT);
+  for (const part of MANY.match(/[^]{1,999}/g)) {
+    reportGrew(part);
+    drawGrowth();
+  }
+  assert.equal(linesShown(), 2000);
+  assert.equal(MANY.startsWith(element('report').textContent), true);
+  const { createElement } = document;
+  const { createObjectURL } = URL;
+  const sizes = [];
+  document.createElement = tag => Object.assign(createElement(tag), tag === 'a' ? { click() {} } : {});
+  URL.createObjectURL = blob => sizes.push(blob.size);
+  OUTS.outReport();
+  Object.assign(document, { createElement });
+  Object.assign(URL, { createObjectURL });
+  assert.deepEqual(sizes, [MANY.length]);
+  begin(TEXT, REPORT);
+  assert.deepEqual([element('report').textContent, element('moreReport').hidden], [REPORT, true]);
+});
+
+test('tree: of many rows a number is unfolded, and all are folded', () => {
+  begin(TEXT, MANY);
+  views.tree.foldAll(true);
+  const rows = element('tree').querySelectorAll('li').length;
+  assert.ok(rows > 2000 && rows < 2200, `${rows} rows`);
+  const lists = () => element('tree').querySelectorAll('ul').filter(it => !it.hidden).length;
+  assert.ok(lists() > 30);
+  views.tree.foldAll(false);
+  assert.equal(lists(), 1);
 });
 
 test('solving: what was found; nothing without an engine', () => {
@@ -485,6 +566,116 @@ test('visit: texts for undo, the problem and its report survive a reload', () =>
   state.beginReport(textNow());
   beginVisit();
   assert.equal(state.isReplaced(), true);
+});
+
+const withRemark = letters => TEXT.replace('Pieces', `Remark ${'x'.repeat(letters)}\nPieces`);
+const unkeptNow = () => (element('unkept').hidden ? '' : element('unkept').textContent);
+/** Stores a long text at once, which the page does in slices on a slow machine. */
+function keepLong() {
+  keepText();
+  sayUnkept();
+}
+
+/** Returns whether the page asks before it is left. */
+function asksToStay() {
+  let asks = false;
+  askToStay({ preventDefault: () => { asks = true; } });
+  return asks;
+}
+/** Loads the page again. */
+function reload() {
+  storeVisit();
+  const text = beginVisit();
+  element('text').value = text;
+  drawVisit();
+  return text;
+}
+
+test('visit: of a text that there is no room for the page says so, asks before it is left, and shows the one before after a reload', () => {
+  begin(TEXT);
+  storeVisit();
+  begin(TWO_MOVES);
+  assert.equal(unkeptNow(), '');
+  withRoom(250000, () => {
+    setText(withRemark(300000));
+    keepLong();
+    assert.deepEqual([unkeptNow(), asksToStay()], [say('unkept'), true]);
+    OUTS.outText();
+    assert.equal(asksToStay(), false);
+    changeBoard('mirror');
+    assert.equal(asksToStay(), true);
+    assert.equal(reload(), TWO_MOVES);
+    assert.equal(noteNow(), say('textLost'));
+    setText(TEXT);
+    storeVisit();
+    assert.deepEqual([unkeptNow(), asksToStay(), keptInTab.has('pops.lost')], ['', false, false]);
+  });
+});
+
+test('visit: a long text is stored at each change, and the next visit in another tab begins with it', () => {
+  begin(TWO_MOVES);
+  const long = withRemark(300000);
+  setText(long);
+  keepLong();
+  assert.deepEqual([unkeptNow(), asksToStay()], ['', false]);
+  for (const name of ['pops.tab', 'pops.visit']) keptInTab.delete(name);
+  assert.equal(beginVisit(), long);
+  storeVisit();
+  setText(long.replace('xx', 'xy'));
+  // (this tab has less room than all visits have)
+  const { setItem } = sessionStorage;
+  sessionStorage.setItem = () => { throw new Error('no room'); };
+  assert.equal(reload(), long.replace('xx', 'xy'));
+  sessionStorage.setItem = setItem;
+  begin(TEXT);
+});
+
+test('visit: a short text that there is no room for isn\'t taken for the one before', () => {
+  begin(TWO_MOVES);
+  storeVisit();
+  const { setItem } = localStorage;
+  localStorage.setItem = () => { throw new Error('no room'); };
+  setText(TEXT.replace('Ra1', 'Ra4'));
+  assert.deepEqual([unkeptNow(), asksToStay()], [say('unkept'), true]);
+  assert.equal(reload(), TEXT.replace('Ra1', 'Ra4'));
+  setText(element('example').textContent);
+  assert.deepEqual([unkeptNow(), asksToStay()], ['', false]);
+  localStorage.setItem = setItem;
+});
+
+test('kept: of a text that is replaced and too long to be kept the page says so, and asks before undo would lose it', () => {
+  forgetAll();
+  const letters = '100,000';
+  for (const [long, asks] of [[withRemark(120000), false], [withRemark(600000), true]]) {
+    begin(long);
+    takeText(TWO_MOVES);
+    assert.deepEqual([unkeptNow(), asksToStay(), keptTexts()], [say('unkeptReplaced', { letters }), asks, []]);
+    goSteps(-1);
+    keepLong();
+    assert.equal(unkeptNow(), '');
+    OUTS.outText();
+    goSteps(1);
+    assert.equal(asksToStay(), false);
+    takeText(TEXT);
+    assert.deepEqual([unkeptNow(), asksToStay(), keptTexts()], ['', false, [TWO_MOVES]]);
+    forgetAll();
+  }
+  assert.match(element('kept-where').textContent, /of up to 100,000 letters/);
+  withRoom(1000, () => {
+    begin(withRemark(2000));
+    takeText(TWO_MOVES);
+    assert.equal(unkeptNow(), say('unkeptReplaced', { letters }));
+  });
+  begin(TEXT);
+});
+
+test('keeping: another tab\'s text stays where there is no room to keep it', () => {
+  forgetAll();
+  kept.set('pops', withRemark(2000));
+  kept.set('pops.tab', 'another');
+  withRoom(1000, () => storeText(TEXT));
+  assert.deepEqual([kept.get('pops'), kept.get('pops.tab')], [withRemark(2000), 'another']);
+  kept.delete('pops.tab');
 });
 
 test('keeping: a text in work of another tab is kept before it is replaced', () => {

@@ -101,9 +101,12 @@ test('the package for web pages: a missing engine rejects, each time', async () 
 
 const THREE = 'BeginProblem Stipulation #1\nTitle a\nNextProblem Stipulation #0\nTitle b\nNextProblem Stipulation #1\nTitle c\nEndProblem\n';
 
+const LIST = '2: fault 8, line 3, bytes 72 up to 74\n';
+
 /** A worker whose engine solves each problem by its title, and takes problem b for faulty. */
 class TitleWorker extends MadeWorker {
-  answer({ text, check }) {
+  answer({ call, text, check }) {
+    if (call === 'faults') return { status: 1, bytes: new TextEncoder().encode(LIST) };
     const titles = new TextDecoder().decode(text).match(/Title ./g).map(it => it.at(-1));
     const items = titles.map((title, at) => (title === 'b' ? `problem ${at + 1}\nline 3: fault 8: bad stipulation\n\n`
       : `problem ${at + 1}\ntitle: ${title}\n#1\n${check ? 'sound' : `play\n1.R${title}1-${title}8#\nsolutions: 1`}\n\n`));
@@ -116,6 +119,17 @@ async function solvedOnly(only, settings = {}) {
   const solving = new Solving(THREE, { only, ...settings }, new Crew(1, () => new TitleWorker(), UTF8), () => {});
   return { ...await solving.solve(), report: solving.shown };
 }
+
+test('solving: the list of a faulty text is given before its report, once', async () => {
+  const said = [];
+  const crew = () => new Crew(1, () => new TitleWorker(), UTF8);
+  const solving = new Solving(THREE, { placed: list => said.push(['list', list]) }, crew(), part => said.push(['report', part]));
+  await solving.solve();
+  assert.deepEqual(said.map(it => it[0]).indexOf('list'), 0);
+  assert.deepEqual(said.filter(it => it[0] === 'list'), [['list', LIST]]);
+  const sound = new Solving(THREE.replace('Title b', 'Title d'), { placed: assert.fail }, crew(), () => {});
+  assert.equal((await sound.solve()).status, 0);
+});
 
 test('solving: one problem of several keeps its number', async () => {
   const third = 'problem 3\ntitle: c\n#1\nplay\n1.Rc1-c8#\nsolutions: 1\n\n';

@@ -5,7 +5,8 @@ import { KINDS, MAN_NAMES } from '../../web/men.js';
 import { barredAfter, halfAfter, moveBetween, promotes, stipulationAfter, withProblemAfter, partsOfStipulation, stipulationOf } from '../../web/play.js';
 import { after, changed, exchanged, fenOf, menOfRanks, placeOf, ranksOf, readFen, squareOf } from '../../web/position.js';
 import { fileNameOf, fragmentOf, keptOf, nameOfText, Steps, textOfBytes, textOfFragment, visitOf, withKept, writtenVisit } from '../../web/store.js';
-import { blockAt, blocksOf, fieldsOf, lineAt, menOf, posedIn, sidesOf, tailOf, valueOf, withField, withMen, withoutLines, withTail, wordsOf } from '../../web/text.js';
+import { atOnce } from '../../web/slices.js';
+import { blockAt, blocksOf, fieldsOf, lineAt, menOf, posedAlike, sidesOf, tailOf, valueOf, withField, withMen, withoutLines, withTail, wordsOf } from '../../web/text.js';
 import { language, say, sayMan } from '../../web/words.js';
 import { makeDocument } from '../helpers/page_imports.mjs';
 
@@ -125,11 +126,18 @@ test('store: a visit, whose longest parts may be left out', () => {
   assert.deepEqual([again.texts, again.go(-1), new Steps('b', visit.steps).has(1)], [['a', 'b', 'c'], 'b', true]);
 });
 
+test('text: a title takes nothing of the line that opens the problem', () => {
+  const text = 'BeginProblem Pieces White Kg6 Stipulation #1 EndProblem\n';
+  const titled = withField(text, 0, 'Title', 'A');
+  assert.equal(titled, 'BeginProblem\nTitle A\n Pieces White Kg6 Stipulation #1 EndProblem\n');
+  assert.equal(withField('BeginProblem \r\nEndProblem\n', 0, 'Title', 'A'), 'BeginProblem\nTitle A \r\nEndProblem\n');
+});
+
 test('text: what a problem poses doesn\'t depend on names, blanks and capitals', () => {
   const [block] = blocksOf(TEXT);
-  const [other] = blocksOf(TEXT.replace('A b', 'C').replace('Kg6', 'KG6 ').replace('\nStip', '\nRemark d\nStip'));
-  assert.equal(posedIn(block), 'pieces white kg6 ra1 black kg8 stipulation #1 option maxsolutions 3');
-  assert.equal(posedIn(other), posedIn(block));
+  const isPosedAs = text => atOnce(posedAlike(block, blocksOf(text)[0]));
+  assert.equal(isPosedAs(TEXT.replace('A b', 'C').replace('Kg6', 'KG6 ').replace('\nStip', '\nRemark d\nStip')), true);
+  for (const other of [TEXT.replace('Kg6', 'Kg7'), TEXT.replace('EndProblem', 'Option SetPlay\nEndProblem'), 'BeginProblem\nEndProblem']) assert.equal(isPosedAs(other), false);
 });
 
 test('play: a stipulation by choice and number', () => {

@@ -2,14 +2,16 @@
 // Changes of the text: by typing, by the board, by a FEN, by undo and redo. All else on the page follows the text.
 import { element } from '../elements.js';
 import { isOfAnother } from '../importing.js';
-import { changed, countOf, exchanged, impossibleCounts, readFen } from '../position.js';
+import { impossibleCounts } from '../items.js';
+import { changed, countOf, exchanged, readFen } from '../position.js';
 import { inSlices, LONG_TEXT } from '../slices.js';
 import {
   blockAt, blocksOf, fenOfBlock, lineOf, menOf, NEW_PROBLEM, readText, tailOf, withFen, withField, withLine, withMen, withoutLines, withTail,
 } from '../text.js';
 import { say } from '../words.js';
+import { fitPart, followCaret, scrollToLine, select, selectionNow, showText } from './area.js';
 import { doChore } from './beside.js';
-import { scrollToLine, unmarkFaults } from './faults.js';
+import { unmarkFaults } from './faults.js';
 import { keepReplaced, storeNoText, storeText } from './keeping.js';
 import { blockNow, state, textNow } from './state.js';
 import { board, note, unchanged } from './views.js';
@@ -27,7 +29,7 @@ let endPlacing = () => {};
  */
 export function setText(text) {
   leave();
-  element('text').value = text;
+  showText(text);
   state.steps.add(textNow());
   state.follow();
 }
@@ -44,6 +46,7 @@ export function typed() {
   clearTimeout(typing);
   typing = setTimeout(() => {
     endTyping();
+    fitPart();
     state.follow();
   }, TYPING_PAUSE);
   if (textNow().length < LONG_TEXT) state.follow();
@@ -53,6 +56,7 @@ export function typed() {
 /** Shows the problem at the cursor on the board; in a long text that was changed, when it is read. */
 export function placed() {
   endPlacing();
+  followCaret();
   const text = textNow();
   endPlacing = inSlices(text.length, readText(text), () => showPlaced(text));
 }
@@ -60,7 +64,7 @@ export function placed() {
 /** @param {string} text the text at the click or key */
 function showPlaced(text) {
   if (textNow() !== text) return;
-  const number = blockAt(text, element('text').selectionStart)?.number ?? 1;
+  const number = blockAt(text, selectionNow().from)?.number ?? 1;
   if (number === state.number) return;
   state.choose(number);
   state.follow();
@@ -77,7 +81,7 @@ export function goToProblem(number) {
   state.follow();
   const block = blockNow();
   if (!block) return;
-  element('text').setSelectionRange(block.from, block.from);
+  select(block.from, block.from);
   scrollToLine(lineOf(textNow(), block.from), 2);
 }
 
@@ -86,7 +90,7 @@ export function goToProblem(number) {
  * @returns {Block}
  */
 function blockMade() {
-  if (!blockNow()) element('text').value += NEW_PROBLEM;
+  if (!blockNow()) showText(textNow() + NEW_PROBLEM);
   return /** @type {Block} */ (blockNow());
 }
 
@@ -139,7 +143,7 @@ export function goSteps(step) {
   const text = state.steps.go(step);
   if (text === null) return;
   leave();
-  element('text').value = text;
+  showText(text);
   state.follow();
 }
 
@@ -218,15 +222,36 @@ export function takeText(given) {
  */
 export function insertText(given) {
   endTyping();
-  const { value, selectionStart, selectionEnd } = element('text');
+  const [text, selected] = [textNow(), selectionNow()];
   /** @param {Imported} made */
   const put = made => {
-    const isSame = textNow() === value;
-    const place = isSame ? { from: selectionStart, to: selectionEnd } : { from: element('text').selectionStart, to: element('text').selectionEnd };
-    insertAt(place, made.text ?? given);
+    insertAt(textNow() === text ? selected : selectionNow(), made.text ?? given);
     sayImported(made);
   };
-  if (!doChore('import', { text: given }, put, fault => note(say('failed', { fault })))) note(say('importing'));
+  if (!doChore('import', { text: given }, unlessReplaced(put), fault => note(say('failed', { fault })))) note(say('importing'));
+}
+
+/**
+ * Returns what takes a pasted text, or says that it comes too late, if another text as a whole has replaced the one it was pasted into.
+ * @param {(made: Imported) => void} take
+ */
+function unlessReplaced(take) {
+  const [text, { sheet }] = [textNow(), state];
+  return (/** @type {Imported} */ made) => (state.sheet === sheet || textNow() === text ? take(made) : note(say('importLate')));
+}
+
+/**
+ * Puts a pasted text in place of what is selected, as a browser does, where this would take long.
+ * @param {string} given
+ */
+export function insertLong(given) {
+  endTyping();
+  const { from, to } = selectionNow();
+  const before = textNow().slice(0, from) + given.replace(/\r\n?/g, '\n');
+  setText(before + textNow().slice(to));
+  select(before.length, before.length);
+  scrollToLine(lineOf(textNow(), before.length), 4);
+  placed();
 }
 
 /**
@@ -239,7 +264,7 @@ function insertAt({ from, to }, lines) {
   const first = !before || before.endsWith('\n') ? before : `${before}\n`;
   const end = first.length + lines.length;
   setText(first + lines + textNow().slice(to));
-  element('text').setSelectionRange(end, end);
+  select(end, end);
   scrollToLine(lineOf(textNow(), first.length), 2);
   placed();
 }
@@ -263,7 +288,7 @@ function replaceText(text) {
   state.beginSheet();
   state.choose(1);
   setText(text);
-  element('text').setSelectionRange(0, 0);
+  select(0, 0);
 }
 
 /**

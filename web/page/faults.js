@@ -6,11 +6,11 @@ import { isOfAnother } from '../importing.js';
 import { LONG_TEXT, Work } from '../slices.js';
 import { lineAt } from '../text.js';
 import { say } from '../words.js';
+import { lineTop, scrollToLine, select } from './area.js';
 import { doChore } from './beside.js';
 import { state, textNow } from './state.js';
 
 const MARKED_FAULTS = 100;
-const LINE_PIXELS = 20;
 /** What takes a corrected text, and what converts the text. */
 const corrected = { take: (/** @type {Corrected} */ _) => {}, convert: () => {} };
 
@@ -41,17 +41,8 @@ export function markFaults() {
 export function placeMarks() {
   const { scrollTop } = element('text');
   for (const mark of element('gutter').children) {
-    mark.style.top = `${4 + (Number(mark.dataset.line) - 1) * LINE_PIXELS - scrollTop}px`;
+    mark.style.top = `${4 + lineTop(Number(mark.dataset.line)) - scrollTop}px`;
   }
-}
-
-/**
- * Scrolls the text so that a line is the one after some others, counted from the top.
- * @param {number} line
- * @param {number} lead
- */
-export function scrollToLine(line, lead) {
-  element('text').scrollTop = Math.max(0, (line - lead) * LINE_PIXELS);
 }
 
 /** @type {{ text: string, answer: boolean | null, waiting: (() => void)[] }} the text that was tried last: whether the page can convert it, null until that is known */
@@ -90,7 +81,7 @@ function convertButton() {
 function goToLine(line) {
   const { from, to } = lineAt(textNow(), line);
   element('text').focus();
-  element('text').setSelectionRange(from, to);
+  select(from, to);
   scrollToLine(line, 4);
 }
 
@@ -109,7 +100,8 @@ export function whenCorrected(take, convert) {
  */
 export function drawnFault(item) {
   const general = JSON.parse(partText('fault-words'))[item.fault.number] ?? '';
-  const box = faultBox(state.solved, item, general, { goToLine, take: made => corrected.take(made) }, faultWork);
+  const placed = { ...item, place: state.places.get(item.number) };
+  const box = faultBox(state.solved, placed, general, { goToLine, take: made => corrected.take(made) }, faultWork);
   whenConvertible(state.solved, () => box.append(convertButton()));
   return box;
 }

@@ -7,8 +7,9 @@ import { LONG_TEXT } from '../slices.js';
 import { MOST_FILE_BYTES, textOfBytes } from '../store.js';
 import { blockAt, blocksOf, hasProblem, joinedTexts, NEW_PROBLEM, withFen } from '../text.js';
 import { say } from '../words.js';
+import { isLongWith, selectionNow } from './area.js';
 import { doChore, SHORT_WORK } from './beside.js';
-import { insertText, takeFen, takeProblems, takeText } from './editing.js';
+import { insertLong, insertText, takeFen, takeProblems, takeText } from './editing.js';
 import { textNow } from './state.js';
 import { note } from './views.js';
 
@@ -147,14 +148,15 @@ function takePasted(event, text, isText) {
   if (readFen(text)) takeFen(text);
   else if (isText && isAmongText() && isConvertible(text)) insertText(text);
   else if ((!isText && hasProblem(text)) || isConvertible(text)) takeText(text);
+  else if (isText && isLongWith(text)) insertLong(text);
   else return;
   event.preventDefault();
 }
 
 /** Returns whether the text box has more than what is selected in it. */
 function isAmongText() {
-  const { value, selectionStart, selectionEnd } = element('text');
-  return Boolean((value.slice(0, selectionStart) + value.slice(selectionEnd)).trim());
+  const { from, to } = selectionNow();
+  return Boolean((textNow().slice(0, from) + textNow().slice(to)).trim());
 }
 
 /** @param {DragEvent} event */

@@ -6,6 +6,8 @@ import { keep, keepInTab, kept, keptInTab } from './storage.js';
 
 /** What shows the list of kept problems after it has changed. */
 let showList = () => {};
+/** The text that another one replaced last, if it isn't kept. */
+let unkept = '';
 
 /** @param {() => void} act */
 export function whenKept(act) {
@@ -15,33 +17,52 @@ export function whenKept(act) {
 export const keptList = () => keptOf(kept('pops.kept') ?? '[]');
 
 /**
- * Stores the list of kept problems; null removes it.
+ * Stores the list of kept problems; null removes it. Returns false if the browser has no room for it.
  * @param {KeptText[] | null} list
  */
 export function storeList(list) {
-  keep('pops.kept', list && JSON.stringify(list));
+  const isStored = keep('pops.kept', list && JSON.stringify(list));
   showList();
+  return isStored;
 }
 
 /**
- * Adds a text to the kept problems.
+ * Adds a text to the kept problems; returns whether it is one of them then.
  * @param {string} text
  * @param {{ isLinked?: boolean, tab?: string }} [more]
  */
 export function keepProblem(text, more = {}) {
-  storeList(withKept(keptList(), { text, time: Date.now(), ...more }));
+  const list = withKept(keptList(), { text, time: Date.now(), ...more });
+  return storeList(list) && isKeptText(text);
 }
+
+/** @param {string} text */
+const isKeptText = text => keptList().some(it => it.text === text);
+
+/**
+ * Returns whether nobody would miss a text: the page's example, or an empty one.
+ * @param {string} text
+ */
+export const isNobodys = text => text === exampleText() || !text.trim();
 
 export const exampleText = () => partText('example').trimStart();
 
 /**
- * Keeps a text that another one replaces, unless it is kept already or is the page's example.
+ * Keeps a text that another one replaces, unless it is kept already or nobody would miss it.
+ * @param {string} text
+ */
+export function keepReplaced(text) {
+  unkept = keepsReplaced(text) ? '' : text;
+}
+
+/**
  * @param {string} text
  * @param {{ tab?: string }} [more]
  */
-export function keepReplaced(text, more = {}) {
-  if (text !== exampleText() && !keptList().some(it => it.text === text)) keepProblem(text, more);
-}
+const keepsReplaced = (text, more) => isNobodys(text) || isKeptText(text) || keepProblem(text, more);
+
+/** Returns the text that another one replaced last, if it isn't kept; empty otherwise. */
+export const unkeptText = () => unkept;
 
 /** Returns the name of this tab, which a reload doesn't change. */
 export function tabName() {
@@ -53,16 +74,17 @@ export function tabName() {
 }
 
 /**
- * Stores the text in work. If the stored one is another tab's, it becomes a kept problem.
+ * Stores the text in work. If the stored one is another tab's, it becomes a kept problem, or stays if there is no room for that.
  * @param {string} text
  */
 export function storeText(text) {
   const [stored, tab, own] = [kept('pops'), kept('pops.tab'), tabName()];
-  if (stored !== null && tab && tab !== own && stored !== text) keepReplaced(stored, { tab });
+  if (stored !== null && tab && tab !== own && stored !== text && !keepsReplaced(stored, { tab })) return;
   if (keep('pops', text)) keep('pops.tab', own);
+  else storeNoText();
 }
 
-/** Says that the text in work is too long to be stored at each change: the visit alone has it. */
+/** Says that the visit alone has the text in work: it is long, or there is no room for it. */
 export function storeNoText() {
   keep('pops.tab', null);
 }

@@ -1,14 +1,15 @@
 // @ts-check
 // The list of kept problems.
 import { element, makeButton } from '../elements.js';
-import { MOST_KEPT, nameOfText } from '../store.js';
+import { MOST_KEPT, MOST_KEPT_LETTERS, nameOfText } from '../store.js';
 import { language, say } from '../words.js';
 import { takeText } from './editing.js';
 import { keptList, storeList } from './keeping.js';
 
 export function showKept() {
   const list = keptList();
-  element('kept-where').textContent = list.length ? say('keptWhere', { most: MOST_KEPT }) : `${say('keptNone')}. ${say('keptWhere', { most: MOST_KEPT })}`;
+  const where = say('keptWhere', { most: MOST_KEPT, letters: MOST_KEPT_LETTERS.toLocaleString(language) });
+  element('kept-where').textContent = list.length ? where : `${say('keptNone')}. ${where}`;
   element('kept-list').replaceChildren(...list.map((it, index) => {
     const line = document.createElement('li');
     const name = nameOfText(it.text);

@@ -7,7 +7,7 @@ import { say } from '../words.js';
 import { doChore } from './beside.js';
 import { blockNow, state, textNow } from './state.js';
 import { board, note, notes } from './views.js';
-import { ownLink } from './visit.js';
+import { ownLink, textSaved } from './visit.js';
 
 /**
  * Names a file after a problem's title, the text's first without another.
@@ -138,6 +138,11 @@ function saveItems(name, ending, type) {
   });
 }
 
+function saveText() {
+  save(nameNow('pop'), 'text/plain', textNow());
+  textSaved();
+}
+
 function saveReport() {
   if (!hasItems()) return;
   save(nameNow('report'), 'text/plain', state.report);
@@ -145,7 +150,7 @@ function saveReport() {
 }
 
 export const OUTS = {
-  outText: () => save(nameNow('pop'), 'text/plain', textNow()),
+  outText: saveText,
   outReport: saveReport,
   outPage: () => saveItems('page', 'html', 'text/html'),
   outSvg: () => save(nameNow('svg', blockNow()), 'image/svg+xml', drawingNow()),

@@ -12,6 +12,9 @@ import { tree } from './views.js';
 // A growing report is drawn again after this many times the duration of the last drawing.
 const DRAWING_SHARE = 10;
 const LEAST_PAUSE = 200;
+const LINES_AT_ONCE = 2000;
+/** How much of the report is shown, and how many lines may be: a browser lays out all of them at each change above. */
+const inSight = { letters: 0, lines: 0, most: LINES_AT_ONCE };
 /** @type {{ timer: ReturnType<typeof setTimeout> | null, pause: number, endReading: (() => void) | null }} the next drawing, the pause before it, what ends its reading */
 const drawing = { timer: null, pause: LEAST_PAUSE, endReading: null };
 
@@ -25,12 +28,32 @@ function diagramMen(item) {
   return block ? menOf(block).men : new Map();
 }
 
+/** Shows the lines of the report that aren't shown yet, up to the requested number. */
+function showReport() {
+  const { report } = state;
+  const begin = inSight.letters;
+  while (inSight.lines < inSight.most && inSight.letters < report.length) {
+    const end = report.indexOf('\n', inSight.letters) + 1;
+    inSight.letters = end || report.length;
+    if (end) inSight.lines += 1;
+  }
+  if (inSight.letters > begin) element('report').append(report.slice(begin, inSight.letters));
+  element('moreReport').hidden = inSight.letters === report.length;
+}
+
+export function showMoreReport() {
+  inSight.most += LINES_AT_ONCE;
+  showReport();
+}
+
 /** Draws the whole report. */
 export function drawReport() {
   endDrawing();
   faultWork.clear();
   state.readReport();
-  element('report').textContent = state.report;
+  Object.assign(inSight, { letters: 0, lines: 0, most: LINES_AT_ONCE });
+  element('report').textContent = '';
+  showReport();
   element('beginning').hidden = !state.isBeginning;
   tree.draw(state.items, diagramMen, drawnFault);
   showAge();
@@ -82,8 +105,7 @@ export function drawGrowth(ended = () => {}) {
 /** Draws what was read of the report. */
 function drawRead() {
   const begun = performance.now();
-  const shown = (element('report').textContent ?? '').length;
-  if (shown < state.report.length) element('report').append(state.report.slice(shown));
+  showReport();
   element('beginning').hidden = !state.isBeginning;
   tree.grow(state.items);
   if (state.items.some(item => item.fault)) markFaults();

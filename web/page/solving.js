@@ -166,7 +166,7 @@ export function solve(only = 0, isLive = false) {
   element('solve').disabled = element('solveThis').disabled = true;
   element('stop').disabled = false;
   const crew = new Crew(navigator.hardwareConcurrency || 1, makeWorker, UTF8);
-  const settings = { ...settingsNow(), most: MOST_REPORT, only: state.only, solvesHelp: true };
+  const settings = { ...settingsNow(), most: MOST_REPORT, only: state.only, solvesHelp: true, placed: state.takePlaces.bind(state) };
   run.solving = new Solving(state.solved, settings, crew, reportGrew);
   tellProgress();
   run.clock = setInterval(tellProgress, 1000);

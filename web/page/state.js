@@ -1,11 +1,12 @@
 // @ts-check
 // What the page shows: the problem on the board, the moves after it, and the report. Only its operations change it.
-import { element } from '../elements.js';
+import { placesOf } from '../explaining.js';
 import { after } from '../position.js';
 import { ReportReading } from '../report.js';
 import { atOnce, inSlices } from '../slices.js';
 import { Steps } from '../store.js';
-import { blocksOf, posedIn, readText } from '../text.js';
+import { blocksOf, posedAlike, readProblem, readText } from '../text.js';
+import { wholeText } from './area.js';
 
 class PageState {
   constructor() {
@@ -23,6 +24,8 @@ class PageState {
     this.solved = '';
     /** @type {Block[]} */
     this.solvedBlocks = [];
+    /** @type {Map<number, Span>} where the engine finds the faults of that text, by the numbers of the problems, as far as that is known */
+    this.places = new Map();
     /** Counts the texts that replaced another as a whole, and says at which count the solved text was shown. */
     this.sheet = 0;
     this.solvedSheet = 0;
@@ -99,7 +102,12 @@ class PageState {
 
   /** @param {string} text @param {number} only */
   takeSolved(text, only) {
-    Object.assign(this, { solved: text, only, solvedBlocks: blocksOf(text), solvedSheet: this.sheet });
+    Object.assign(this, { solved: text, only, solvedBlocks: blocksOf(text), places: new Map(), solvedSheet: this.sheet });
+  }
+
+  /** @param {string} list the engine's list of the solved text's faults */
+  takePlaces(list) {
+    this.places = placesOf(this.solved, list);
   }
 
   /** Begins another text, which replaces the one before as a whole. */
@@ -155,7 +163,7 @@ class PageState {
     const isSolved = now === then;
     const blocks = isSolved ? this.solvedBlocks : blocksOf(now);
     for (let at = 0; at < this.solvedBlocks.length && !isSolved; at++) {
-      if (!blocks[at] || posedIn(blocks[at]) !== posedIn(this.solvedBlocks[at])) changed.add(at + 1);
+      if (!blocks[at] || !(yield* posedAlike(blocks[at], this.solvedBlocks[at]))) changed.add(at + 1);
       yield;
     }
     this.compared = { now, then, isSolved, isAsLong: blocks.length === this.solvedBlocks.length, changed };
@@ -210,6 +218,8 @@ class PageState {
    */
   *following(text) {
     yield* readText(text);
+    const block = blockNow();
+    if (block) yield* readProblem(text, block);
     yield* this.compare();
     for (const act of this.followers) {
       act();
@@ -221,7 +231,7 @@ class PageState {
 export const state = new PageState();
 
 export function textNow() {
-  return element('text').value;
+  return wholeText();
 }
 
 /**

@@ -2,54 +2,50 @@
 // The browser's own storage, which some browsers refuse: for all visits, and for each tab.
 
 /**
- * Returns a stored value; null if there is none.
- * @param {string} key
+ * Returns what a use of a storage returns, or, if the browser refuses it, a value for that.
+ * @template T
+ * @param {() => T} use
+ * @param {T} refused
  */
-export function kept(key) {
+function attempted(use, refused) {
   try {
-    return localStorage.getItem(key);
+    return use();
   } catch {
-    return null;
+    return refused;
   }
 }
 
 /**
- * Stores a value, or removes it if it is null; returns false if the browser stores nothing.
+ * Returns a stored value; null if there is none.
+ * @param {string} key
+ */
+export const kept = key => attempted(() => localStorage.getItem(key), null);
+
+/**
+ * Stores a value, or removes it if it is null; returns false if the browser has no room, and the older value stays.
  * @param {string} key
  * @param {string | null} value
  */
-export function keep(key, value) {
-  try {
-    if (value === null) localStorage.removeItem(key);
-    else localStorage.setItem(key, value);
-    return true;
-  } catch {
-    return false;
-  }
-}
+export const keep = (key, value) => attempted(() => {
+  if (value === null) localStorage.removeItem(key);
+  else localStorage.setItem(key, value);
+  return true;
+}, false);
 
 /**
  * Returns a value that this tab stored; null if there is none.
  * @param {string} key
  */
-export function keptInTab(key) {
-  try {
-    return sessionStorage.getItem(key);
-  } catch {
-    return null;
-  }
-}
+export const keptInTab = key => attempted(() => sessionStorage.getItem(key), null);
 
 /**
- * Stores a value for as long as this tab is open.
+ * Stores a value for as long as this tab is open, or removes it if it is null; returns false if the browser has no room, and the older
+ * value stays.
  * @param {string} key
- * @param {string} value
+ * @param {string | null} value
  */
-export function keepInTab(key, value) {
-  try {
-    sessionStorage.removeItem(key);
-    sessionStorage.setItem(key, value);
-  } catch {
-    // (without room a reload finds what localStorage has)
-  }
-}
+export const keepInTab = (key, value) => attempted(() => {
+  if (value === null) sessionStorage.removeItem(key);
+  else sessionStorage.setItem(key, value);
+  return true;
+}, false);

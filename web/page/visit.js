@@ -1,11 +1,12 @@
 // @ts-check
-// What a reload of the page shows again, and links that are opened.
+// What a reload of the page shows again, what it would lose, and links that are opened.
+import { element } from '../elements.js';
 import { readFen } from '../position.js';
-import { textOfFragment, visitOf, writtenVisit } from '../store.js';
+import { latestSteps, MOST_KEPT_LETTERS, textOfFragment, visitOf, writtenVisit } from '../store.js';
 import { blockAt, NEW_PROBLEM, withFen } from '../text.js';
-import { say } from '../words.js';
-import { endTyping, takeText } from './editing.js';
-import { exampleText, keepProblem, storedByTab } from './keeping.js';
+import { language, say } from '../words.js';
+import { endTyping, keepText, takeText } from './editing.js';
+import { exampleText, isNobodys, keepProblem, storedByTab, unkeptText } from './keeping.js';
 import { drawReport } from './reporting.js';
 import { state, textNow } from './state.js';
 import { keep, keepInTab, kept, keptInTab } from './storage.js';
@@ -13,22 +14,64 @@ import { note } from './views.js';
 
 /** The fragment of the link that was opened last. */
 let link = '';
+/** The text that was saved last as a file. */
+let savedText = '';
 
-/** Stores this visit, for a reload of this tab and for the next visit. */
+/** Stores the text in work and this visit, for a reload of this tab and for the next visit; returns whether both will find the text. */
 export function storeVisit() {
   endTyping();
+  keepText();
+  return keepsVisit() || storedByTab() !== null;
+}
+
+/** Stores this visit; returns whether the next one will find it. */
+function keepsVisit() {
   const { steps, number, solved, report, only } = state;
   const isBeginning = state.isBeginning || !state.isEnded;
   const written = writtenVisit({ steps, number, link, solved: report ? { text: solved, report, isBeginning, only, isReplaced: state.isReplaced() } : null });
-  keepInTab('pops.visit', written);
-  keep('pops.visit', written);
+  const isKept = keep('pops.visit', written);
+  const isInTab = keepInTab('pops.visit', written);
+  // (a reload would find an older one of this tab first)
+  if (isKept && !isInTab) keepInTab('pops.visit', null);
+  keepInTab('pops.lost', isKept || isInTab ? null : 'yes');
+  return isKept;
+}
+
+/** Stores a long text, and says which texts aren't kept. */
+export function sayUnkept() {
+  const isKept = storedByTab() !== null || keepsVisit() || isNobodys(textNow());
+  const text = unkeptText();
+  const isReplaced = text !== '' && text !== textNow() && state.steps.texts.includes(text);
+  const letters = MOST_KEPT_LETTERS.toLocaleString(language);
+  const said = [...(isKept ? [] : [say('unkept')]), ...(isReplaced ? [say('unkeptReplaced', { letters })] : [])].join(' ');
+  Object.assign(element('unkept'), { hidden: !said, textContent: said });
+}
+
+/** Remembers that the text is saved as a file. */
+export function textSaved() {
+  savedText = textNow();
+}
+
+/**
+ * Asks whether to leave the page, if a text would be lost that isn't saved as a file.
+ * @param {BeforeUnloadEvent} event
+ */
+export function askToStay(event) {
+  const isKept = storeVisit() || isNobodys(textNow()) || textNow() === savedText;
+  const replaced = unkeptText();
+  if (isKept && (!replaced || replaced === savedText || latestSteps(state.steps).texts.includes(replaced))) return;
+  event.preventDefault();
+  // (Chrome before 119 asks only so)
+  event.returnValue = true;
 }
 
 /** Begins with this tab's visit, or else with the last one; without any, with the example. Returns the text. */
 export function beginVisit() {
   const own = visitOf(keptInTab('pops.visit'));
   const visit = own ?? visitOf(kept('pops.visit'));
-  const text = storedByTab() ?? own?.steps.texts[own.steps.place] ?? kept('pops') ?? exampleText();
+  // (of a tab whose text was lost the last short one is later than its visit)
+  const latest = keptInTab('pops.lost') ? null : own ?? (kept('pops.tab') ? null : visit);
+  const text = storedByTab() ?? latest?.steps.texts[latest.steps.place] ?? kept('pops') ?? exampleText();
   state.beginSteps(text, visit?.steps);
   state.choose(visit?.number ?? 1);
   link = own?.link ?? '';
@@ -36,9 +79,10 @@ export function beginVisit() {
   return text;
 }
 
-/** Draws the report of an earlier visit. */
+/** Draws the report of an earlier visit; says so if its text was lost. */
 export function drawVisit() {
   if (state.report) drawReport();
+  if (keptInTab('pops.lost')) note(say('textLost'));
 }
 
 /** Opens the text of the link, unless it was opened already, beside the text in work, which is kept. */

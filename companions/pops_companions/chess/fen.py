@@ -14,17 +14,13 @@ class FenError(ValueError):
     """A text that is no FEN, with what is wrong."""
 
 
-_KINDS = {
-    "k": Kind.KING,
-    "q": Kind.QUEEN,
-    "r": Kind.ROOK,
-    "b": Kind.BISHOP,
-    "n": Kind.KNIGHT,
-    "p": Kind.PAWN,
-}
+_KINDS = dict(zip("kqrbnp", Kind))
 _ROOKS = {"K": "h1", "Q": "a1", "k": "h8", "q": "a8"}
 _TURNS = {"w": Colour.WHITE, "b": Colour.BLACK}
-_OPERATION = re.compile(r'\s*([A-Za-z][A-Za-z0-9_]*)\s*((?:"[^"]*"|[^";])*);')
+# An operation's name and its values, apart: as one, every shorter name would be tried where the
+# values have no end.
+_NAME = re.compile(r"\s*([A-Za-z][A-Za-z0-9_]*)\s*")
+_VALUES = re.compile(r'((?:"[^"]*"|[^";])*);')
 
 
 @dataclass(frozen=True)
@@ -117,14 +113,16 @@ def _operations(text: str) -> dict[str, str]:
     """Returns the operations of an EPD by their names. The two numbers that end a FEN are none."""
     if re.fullmatch(r"\d+(\s+\d+)?\s*", text):
         return {}
+    text = text.rstrip()
     operations = {}
     place = 0
-    while text[place:].strip():
-        parts = _OPERATION.match(text, place)
-        if parts is None:
+    while place < len(text):
+        name = _NAME.match(text, place)
+        values = None if name is None else _VALUES.match(text, name.end())
+        if name is None or values is None:
             raise FenError(
                 f"{text[place:].strip()!r} is neither the end of a FEN nor an operation of an EPD"
             )
-        operations[parts[1]] = parts[2].strip().strip('"')
-        place = parts.end()
+        operations[name[1]] = values[1].strip().strip('"')
+        place = values.end()
     return operations

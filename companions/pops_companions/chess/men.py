@@ -1,6 +1,6 @@
 """Colours, men and squares, by the names and letters that pops uses."""
 
-from collections.abc import Iterator
+from collections.abc import Iterator, Mapping
 from enum import Enum
 from typing import Any, NamedTuple
 
@@ -71,6 +71,10 @@ class Man(NamedTuple):
         """Its letter on a printed board: capital for White, small for Black."""
         return self.kind.value if self.colour is Colour.WHITE else self.kind.value.lower()
 
+    def on(self, square: "Square") -> str:
+        """As `white Ra1`."""
+        return f"{self.colour.value} {self.kind.value}{square.name}"
+
     @staticmethod
     def of_letter(letter: str) -> "Man":
         """Returns the man of a printed board's letter. ValueError for any other letter."""
@@ -113,3 +117,19 @@ class Square(NamedTuple):
 _MEN = {man.letter: man for man in (Man(colour, kind) for colour in Colour for kind in Kind)}
 _SQUARES = {square.name: square for square in (Square(file, rank) for file in range(1, 9) for rank in range(1, 9))}
 _DIAGRAM = [Square(file, rank) for rank in range(8, 0, -1) for file in range(1, 9)]
+
+
+class Changes:
+    """The men that one position has and another one lacks, and the other way round."""
+
+    def __init__(self, before: Mapping[Square, Man], now: Mapping[Square, Man]):
+        self.gone = {square: man for square, man in before.items() if now.get(square) != man}
+        self.new = {square: man for square, man in now.items() if before.get(square) != man}
+
+    def moved(self) -> Iterator[tuple[Man, Square, Square]]:
+        """Yields the men that are elsewhere now, from where and to where, and takes them out."""
+        for square, man in list(self.gone.items()):
+            target = next((it for it, other in self.new.items() if other == man), None)
+            if target is not None:
+                yield man, square, target
+                del self.gone[square], self.new[target]

@@ -9,9 +9,9 @@ from typing import Optional
 from pops_companions import command
 from pops_companions.command import Status
 from pops_companions.many.progress import Progress
-from pops_companions.review.differences import Counts, Differences, differences_of, heading
+from pops_companions.review.differences import Counts, Pair, differences_of, heading
 from pops_companions.review.kept_report import KeptReport, kept_report
-from pops_companions.review.matching import Pair, pairs_of
+from pops_companions.review.matching import Pairs, Places
 from pops_companions.review.naming import counted
 
 NAME = "pops-compare"
@@ -58,24 +58,27 @@ class Comparison:
         self._pairs = 0
         self.differing = 0
 
-    def _differences(self, pair: Pair) -> Differences:
-        """Returns the differences of a pair of heads; equal texts have none."""
-        if pair.old is None or pair.new is None:
-            return differences_of(pair, self._encoding)
-        old, new = self._old.text(pair.old), self._new.text(pair.new)
-        if old.partition(b"\n")[2] == new.partition(b"\n")[2]:
-            return Differences()
-        whole = Pair(self._old.item(old), self._new.item(new))
-        return differences_of(whole, self._encoding)
+    def _pair(self, places: Places) -> Optional[Pair]:
+        """Returns the items of a pair; None where their texts are equal."""
+        old = None if places.old is None else self._old.text(places.old)
+        new = None if places.new is None else self._new.text(places.new)
+        if old is not None and new is not None:
+            if old.partition(b"\n")[2] == new.partition(b"\n")[2]:
+                return None
+        before = None if old is None else self._old.item(old)
+        return Pair(before, None if new is None else self._new.item(new))
 
     def texts(self, progress: Progress) -> Iterator[str]:
         """Yields the differences of each pair that has any, then what they come to."""
-        pairs = pairs_of(self._old.heads, self._new.heads)
+        pairs = Pairs(self._old.heads, self._new.heads)
         progress.begin(0, len(pairs))
-        for pair in pairs:
+        for places in pairs:
             self._pairs += 1
-            found = self._differences(pair)
+            pair = self._pair(places)
             progress.one_more()
+            if pair is None:
+                continue
+            found = differences_of(pair, self._encoding)
             self._counts.add(found.counts)
             if found.lines or pair.old is None or pair.new is None:
                 self.differing += 1
@@ -89,12 +92,8 @@ class Comparison:
         counts = self._counts
         verb = "differs" if self.differing == 1 else "differ"
         parts = [f"{counted(self._pairs, 'problem')}: {self.differing} {verb}"]
-        for name, gained, lost in (
-            ("problems", counts.problems_gained, counts.problems_lost),
-            ("solutions", counts.solutions_gained, counts.solutions_lost),
-            ("variations", counts.variations_gained, counts.variations_lost),
-            ("faults", counts.faults_gained, counts.faults_lost),
-        ):
+        for name in ("problems", "solutions", "variations", "faults"):
+            gained, lost = counts.gained[name], counts.lost[name]
             if gained or lost:
                 parts.append(f"{name} {gained} gained, {lost} lost")
         if counts.totals_changed:

@@ -5,9 +5,9 @@ import io
 import json
 import os
 import sys
-from collections.abc import Iterator
+from collections.abc import Iterator, Mapping
 from pathlib import Path
-from typing import BinaryIO, Optional
+from typing import BinaryIO, NamedTuple, Optional
 
 from pops.engine import Engine
 from pops.run import Ending, Limits
@@ -21,6 +21,8 @@ from pops_companions.explain.mending import further_faults
 from pops_companions.explain.notices import notices
 from pops_companions.explain.showing import Shower
 from pops_companions.input.pieces import cut
+from pops_companions.input.words import Span
+from pops_companions.many.fault_places import places_of
 from pops_companions.many.program import LOOKED_FOR, MissingError, RunError
 from pops_companions.report.items import Item
 from pops_companions.report.reader import ReportError, read_report
@@ -95,26 +97,46 @@ def arguments(words: list[str]) -> Settings:
     return settings
 
 
+# Where pops finds the faults of a text, by their problems.
+Places = Mapping[int, Span]
+
+
+class Checked(NamedTuple):
+    """The report on a text, and where the faults are, as far as that is known."""
+
+    report: bytes
+    places: Places
+
+
 def name_of(file: str) -> str:
     """Returns a file as messages name it."""
     return "standard input" if file == STANDARD_INPUT else file
 
 
-def checked(text: bytes, named: Optional[str]) -> bytes:
+def checked(text: bytes, named: Optional[str]) -> Checked:
     """Returns what pops says of a text without solving it."""
     most = _MOST_FOR_A_TEXT + _MOST_FOR_A_BYTE * len(text)
     try:
-        result = Engine(named).check(text, Limits(bytes=most)).result
+        engine = Engine(named)
+        result = engine.check(text, Limits(bytes=most)).result
         if result.ending is Ending.BYTES:
             raise CommandError(Status.DEVICE, f"pops wrote more than {most} bytes, and was ended")
-        return result.text
+        is_faulty = result.status == Status.FAULTY
+        return Checked(result.text, places_of(text, engine.program) if is_faulty else {})
     except MissingError as error:
         raise CommandError(Status.DEVICE, f"{error}; or give REPORT") from None
     except (RunError, ReportError) as error:
         raise CommandError(Status.DEVICE, str(error)) from None
 
 
-def write(name: str, text: bytes, report: BinaryIO, target: BinaryIO, every: bool) -> Status:
+def write(
+    name: str,
+    text: bytes,
+    report: BinaryIO,
+    target: BinaryIO,
+    every: bool,
+    places: Optional[Places] = None,
+) -> Status:
     """Writes an explanation of each fault, the notices, and how many problems there are.
 
     `every` is whether the faults after the first one of a problem are explained too.
@@ -132,7 +154,7 @@ def write(name: str, text: bytes, report: BinaryIO, target: BinaryIO, every: boo
     def show(explained: ExplainedFault) -> None:
         target.write((shower.text_of(explained) + "\n").encode("utf-8", "replace"))
 
-    for explained in explain(text, counted()):
+    for explained in explain(text, counted(), places):
         faulty += 1
         show(explained)
         for other in further_faults(text, pieces, explained.problem) if every else ():
@@ -148,13 +170,20 @@ def write(name: str, text: bytes, report: BinaryIO, target: BinaryIO, every: boo
     return Status.FAULTY if faulty else Status.GOOD
 
 
-def write_json(name: str, text: bytes, report: bytes, target: BinaryIO, every: bool) -> Status:
+def write_json(
+    name: str,
+    text: bytes,
+    report: bytes,
+    target: BinaryIO,
+    every: bool,
+    places: Optional[Places] = None,
+) -> Status:
     """Writes an object for each diagnostic, a line each."""
     items = list(read_report([report]))
     if not items:
         raise OtherText("it is empty")
     status = Status.GOOD
-    for found in diagnostics(text, items, every):
+    for found in diagnostics(text, items, every, places):
         status = Status.FAULTY if found.fault is not None else status
         line = json.dumps(diagnostic_object(name, found), ensure_ascii=False) + "\n"
         target.write(line.encode("utf-8", "replace"))
@@ -171,13 +200,18 @@ def is_written(place: Path, text: bytes) -> bool:
     raise CommandError(Status.USAGE, message)
 
 
+def fixed_place(file: str) -> Path:
+    """Returns where the corrected text of a file is written."""
+    path = Path(file)
+    return path.with_name(f"{path.stem}.fixed{path.suffix}")
+
+
 def fix(file: str, text: bytes, force: bool) -> str:
     """Writes the corrected text next to its file; returns what there is to say of it."""
     made = mend(text)
     if not made.mended:
         return f"{NAME}: {file}: nothing could be corrected\n" if made.left else ""
-    path = Path(file)
-    place = path.with_name(f"{path.stem}.fixed{path.suffix}")
+    place = fixed_place(file)
     if force or not is_written(place, made.text):
         with command.written(str(place), Links.REPLACED) as target:
             target.write(made.text)
@@ -188,17 +222,22 @@ def fix(file: str, text: bytes, force: bool) -> str:
 def main(words: list[str]) -> Status:
     settings = arguments(words)
     name = name_of(settings.input)
+    if settings.fix:
+        command.refuse_shared([], [str(fixed_place(settings.input)), settings.output])
     text = command.read_all(settings.input)
     if settings.report is None:
-        report = checked(text, settings.pops)
+        said = checked(text, settings.pops)
     else:
-        report = command.read_all(settings.report)
+        said = Checked(command.read_all(settings.report), {})
     try:
         with command.written(settings.output) as target:
             if settings.json:
-                status = write_json(name, text, report, target, settings.all)
+                status = write_json(
+                    name, text, said.report, target, settings.all, said.places
+                )
             else:
-                status = write(name, text, io.BytesIO(report), target, settings.all)
+                report = io.BytesIO(said.report)
+                status = write(name, text, report, target, settings.all, said.places)
     except (ReportError, OtherText) as error:
         source = "what pops said" if settings.report is None else name_of(settings.report)
         raise CommandError(Status.FAULTY, f"{source} is no report of {name}: {error}") from None

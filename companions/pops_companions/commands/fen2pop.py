@@ -13,7 +13,7 @@ from pops_companions import command
 from pops_companions.chess.fen import FenError, Position, read_position
 from pops_companions.chess.stipulation import Condition, Stipulation
 from pops_companions.command import Status
-from pops_companions.input.writing import Wishes, is_turned, problem_lines, text_of_problems
+from pops_companions.input.writing import Wishes, is_turned, problem_of_position, text_of_problems
 
 NAME = "fen2pop"
 # At most this many positions with reversed colours are named.
@@ -118,8 +118,8 @@ def problem_of(given: Given, wishes: Wishes, named: Optional[Stipulation]) -> Pr
         raise FenError("no stipulation: give --stipulation")
     title = position.operations.get("id", "") or given.players or wishes.title
     named_wishes = replace(wishes, title=title, origin=given.event)
-    lines = problem_lines(position, given.text, asked, named_wishes)
-    return Problem(lines, is_turned(position, asked, wishes))
+    made = problem_of_position(position, given.text, asked, named_wishes)
+    return Problem(made.lines, is_turned(position, asked, wishes))
 
 
 def tell_turned(places: list[str]) -> None:

@@ -257,6 +257,7 @@ def main(words: list[str]) -> Status:
     try:
         collection = Collection(settings.collection, new=settings.add is not None)
         try:
+            command.note_read(settings.collection)
             if settings.add is None:
                 return find(collection, settings)
             return add(collection, settings.add, settings)

@@ -192,7 +192,7 @@ def say(text: str) -> None:
     print(f"{NAME}: {text}", file=sys.stderr)
 
 
-def main(words: list[str]) -> Status:
+def command_line() -> argparse.ArgumentParser:
     parser = command.parser(
         NAME,
         "Turns Popeye inputs in English, German or French, and collections in YAML as the Olive\n"
@@ -221,7 +221,13 @@ def main(words: list[str]) -> Status:
         " problem, twin, kind, reason",
     )
     command.add_encoding(parser, command.is_of_text)
-    settings = parser.parse_args(words, Settings())
+    return parser
+
+
+def main(words: list[str]) -> Status:
+    settings = command_line().parse_args(words, Settings())
+    if settings.index is not None:
+        command.refuse_shared([], [settings.output, settings.index])
     made = Import(settings.json)
     for file in settings.inputs:
         made.read(file, settings.encoding)

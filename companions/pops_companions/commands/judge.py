@@ -9,7 +9,6 @@ from typing import Optional
 
 from pops_companions import command
 from pops_companions.command import STANDARD_INPUT, CommandError, Status
-from pops_companions.commands.many import refuse_shared
 from pops_companions.input.given import given_problems
 from pops_companions.files import is_device
 from pops_companions.input.given_source import refuse_other_text
@@ -115,7 +114,7 @@ def folder_of(settings: Settings) -> Path:
 
 def refuse_sheet(collection: str, sheet: str) -> None:
     """Refuses a sheet that is the collection or can't be written, before anything is solved."""
-    refuse_shared([collection] if collection != STANDARD_INPUT else [], [sheet])
+    command.refuse_shared([collection] if collection != STANDARD_INPUT else [], [sheet])
     if is_device(sheet) and not os.path.isdir(sheet):
         message = f"the sheet needs the name of a file, beside which its folder is: {sheet} is none"
         raise CommandError(Status.USAGE, message)
@@ -139,8 +138,8 @@ def judgements_of(settings: Settings, work: Work, beside: Beside) -> list[Judged
 
 def judge(settings: Settings) -> Status:
     """Runs what is needed, writes the sheet and prints the verdicts."""
-    refuse_sheet(settings.collection, settings.output)
     text = read_collection(settings.collection)
+    refuse_sheet(settings.collection, settings.output)
     given = given_problems(text)
     name = "standard input" if settings.collection == STANDARD_INPUT else settings.collection
     work = Work(folder_of(settings), runs_of(settings), name)
@@ -148,6 +147,7 @@ def judge(settings: Settings) -> Status:
     work.solve()
     short: Optional[str] = str(work.short) if work.solve_shorter(given) else None
     tries = work.tries(text, given)
+    work.refuse_changed()
     with work.read():
         beside = Beside(NAME, settings.solutions, str(work.input), short, tries)
         judged = judgements_of(settings, work, beside)

@@ -4,10 +4,10 @@ import hashlib
 import os
 import sys
 from collections.abc import Sequence
-from contextlib import ExitStack
+from contextlib import ExitStack, suppress
 from typing import BinaryIO, NamedTuple, Optional
 
-from pops_companions import command, places
+from pops_companions import command
 from pops_companions.command import CommandError, Status
 from pops_companions.commands.many_options import (
     NAME,
@@ -18,6 +18,7 @@ from pops_companions.commands.many_options import (
     moment_of,
 )
 from pops_companions.files import Links
+from pops_companions.many.identity import Known
 from pops_companions.many.joining import Joined, Report, path_of_report, write_index
 from pops_companions.many.journal import Journal, JournalError, Origin, fingerprint
 from pops_companions.many.program import MissingError, Program, find, find_part_program
@@ -127,8 +128,35 @@ def name_of_run(journal: str, fingerprint: bytes) -> bytes:
     return hashlib.sha256(name).hexdigest().encode("ascii")
 
 
+def note_programs(
+    journal: Journal, programs: Sequence[Known], elsewhere: Optional[Elsewhere]
+) -> None:
+    """Notes the run's programs besides pops in its journal; refuses others than the journal has."""
+    for part_program in programs[1:]:
+        if not journal.is_from("pops-part", part_program.identity):
+            raise CommandError(
+                Status.USAGE,
+                f"{journal.path} is of another pops-part: name that one with --pops-part, or remove it",
+            )
+    if elsewhere is not None:
+        from pops_companions.many.machines import MachinesError
+
+        try:
+            elsewhere.machines.keep_to(journal.is_from)
+        except MachinesError as error:
+            raise CommandError(Status.DEVICE, str(error)) from None
+
+
 class StoppedError(CommandError):
     """Ends a run that a signal stopped."""
+
+
+class ChangedError(CommandError):
+    """Ends a run during which a program was changed: its reports may be of two."""
+
+    def __init__(self, program: str, to_do: str):
+        super().__init__(Status.UNFINISHED, f"{program} was changed during the run: {to_do}")
+        self.program = program
 
 
 def try_out(targets: Sequence[Target]) -> None:
@@ -140,17 +168,6 @@ def try_out(targets: Sequence[Target]) -> None:
             raise CommandError(
                 Status.DEVICE, f"cannot write {target.path}: {error.strerror}"
             ) from None
-
-
-def refuse_shared(read: Sequence[str], written: Sequence[str]) -> None:
-    """Refuses what would be written over an input or over another file of the run."""
-    taken = {os.path.realpath(path) for path in read}
-    for path in written:
-        real = os.path.realpath(path)
-        if real in taken:
-            raise CommandError(Status.USAGE, f"{path} is named twice")
-        if os.path.isfile(real) or not os.path.exists(real):
-            taken.add(real)
 
 
 def refuse_foreign(reports: Sequence[Report]) -> None:
@@ -210,11 +227,10 @@ def elsewhere_of(
     say, pops_part = progress.say, settings.remote_pops_part or "pops-part"
     with ExitStack() as opened:
         try:
-            parallel = Parallel(settings.jobs, settings.ssh)
+            parallel = Parallel(settings.jobs, settings.ssh, say)
             opened.callback(parallel.close)
-            machines = Machines(
-                settings.sshlogin, parallel, settings.remote_pops, options, programs.whole, say
-            )
+            names = [settings.remote_pops, *([pops_part] if programs.parts is not None else [])]
+            machines = Machines(settings.sshlogin, parallel, names, options, programs.whole, say)
             there = None
             if programs.parts is not None:
                 there = RemoteParts(machines, parallel, pops_part, programs.parts.parts, say)
@@ -250,6 +266,10 @@ class Solving:
         say_of_rests(self._tasks.inputs, self._progress)
         settings.split = settings.split or is_cut_unasked(settings, self._tasks)
         self._programs = programs_of(settings, self._options)
+        # (pops, and pops-part where it is needed)
+        parts = self._programs.parts
+        paths = [self._programs.whole.path, *([parts.parts.path] if parts else [])]
+        self._known = [Known(path) for path in paths]
         self._jobs = settings.jobs or len(os.sched_getaffinity(0))
         if settings.split:
             self._programs.whole.seconds = moment_of(settings, len(self._tasks), self._jobs)
@@ -265,7 +285,9 @@ class Solving:
             second = UnfinishedTarget(journal_path + UNFINISHED, name, Links.REPLACED)
             reports = [it._replace(unfinished=it.unfinished or second) for it in reports]
         files = Files(reports, Target(settings.index, name) if settings.index else None)
-        refuse_shared(settings.files, [*(file.path for file in files.targets), journal_path])
+        written: list[Optional[str]] = [*(file.path for file in files.targets), journal_path]
+        written += [None] * any(report.file is None for report in reports)
+        command.refuse_shared(settings.files, written)
         refuse_foreign(reports)
         elsewhere = elsewhere_of(settings, self._options, self._programs, self._progress)
         try:
@@ -282,15 +304,33 @@ class Solving:
         elsewhere: Optional[Elsewhere],
     ) -> int:
         settings = self._settings
-        pops = places.fingerprint(self._programs.whole.path).encode("ascii")
-        origin = Origin(self._name, pops)
+        origin = Origin(self._name, self._known[0].identity.encode("ascii"))
         journal = open_journal(journal_path, settings, origin, len(self._tasks))
         try:
+            note_programs(journal, self._known, elsewhere)
             try_out(files.targets)
         except CommandError:
             journal.close(kept=settings.resume)
             raise
-        return self._go(journal, Joined(journal, files.reports, output), files.table, elsewhere)
+        joined = Joined(journal, files.reports, output)
+        joined.refuse = lambda: self._refuse_changed(journal)
+        try:
+            return self._go(journal, joined, files.table, elsewhere)
+        except ChangedError:
+            self._progress.end()
+            with suppress(OSError):
+                journal.spoil()
+            journal.close(kept=True)
+            raise
+
+    def _refuse_changed(self, journal: Journal) -> None:
+        """Ends the run where one of its programs was changed meanwhile."""
+        for program in self._known:
+            if program.is_changed:
+                raise ChangedError(
+                    program.program,
+                    f"the reports in {journal.path} may be of two programs, remove it",
+                )
 
     def _go(
         self, journal: Journal, joined: Joined, index: Optional[Target], where: Optional[Elsewhere]
@@ -304,6 +344,7 @@ class Solving:
                 run.go(where, self._jobs)
             finally:
                 kept_in = joined.write_unfinished()
+            self._refuse_changed(journal)
             if joined.complete and index is not None:
                 write_index(index, self._tasks, journal)
             complete = joined.complete
@@ -321,6 +362,7 @@ class Solving:
             worst = max(journal.statuses())
             journal.close(kept=False)
             return worst
+        self._refuse_changed(journal)
         if kept_in:
             self._say_unfinished(joined, kept_in)
         what_is_kept = self._what_is_kept(journal, complete)

@@ -68,8 +68,8 @@ def arguments(words: list[str]) -> Settings:
     return parser.parse_args(words, Settings())
 
 
-class FaultFound(Exception):
-    """pops finds a problem faulty."""
+class LeftOut(Exception):
+    """A problem can't be posed, is faulty, or its time is over before it is shown."""
 
 
 class Solver:
@@ -84,14 +84,16 @@ class Solver:
         return Engine(self._settings.pops_tries, True, min(refutations, _MOST_REFUTATIONS))
 
     def lines(self, draft: Draft, one: Posed) -> Iterator[str]:
-        """Yields the lines of a problem: head, solutions, how it ended. FaultFound where it has none."""
+        """Yields the lines of a problem: head, solutions, how it ended. LeftOut where it has none."""
         begun = time.monotonic()
         text = text_of_problems([_with_all_shown(one.lines)])
         tries = self._run(self._tries_engine(draft.options.refutations), text, begun)
         item = tries.items[0] if tries.items else None
         if isinstance(item, FaultyItem):
-            raise FaultFound(item.fault.text)
+            raise LeftOut(item.fault.text)
         if not isinstance(item, TriesItem):
+            if tries.ending is Ending.SECONDS:
+                raise LeftOut(tries.ending.value)
             raise RunError("pops-tries shows nothing of the problem")
         result = self._run(self._pops, text, begun)
         solved = result.items[0] if result.items else None
@@ -159,7 +161,7 @@ def _joined(tries: TriesItem, phases: Iterable[Phase]) -> TriesItem:
     """Returns the tries of a problem with all defences against its keys."""
     keys: dict[str, Node] = {}
     for phase in phases:
-        keys.update((it.move.text, it) for it in phase.solutions if isinstance(it, Node))
+        keys.update((it.move.text, it) for it in phase.nodes)
 
     def whole(first: FirstMove) -> FirstMove:
         key = keys.get(first.move.text)
@@ -183,10 +185,10 @@ def write(solver: Solver, draft: Draft, one: Posed) -> Status:
     """Writes a problem with its solutions, or says on standard error why it has none."""
     try:
         if one.faults:
-            raise FaultFound("; ".join(fault.text for fault in one.faults))
+            raise LeftOut("; ".join(fault.text for fault in one.faults))
         for line in solver.lines(draft, one):
             print(printable(line))
-    except FaultFound as why:
+    except LeftOut as why:
         name = f"problem {draft.number} {one.label}".rstrip()
         print(f"{NAME}: {name}: left out: {why}", file=sys.stderr)
         return Status.FAULTY

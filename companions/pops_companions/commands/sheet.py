@@ -26,10 +26,11 @@ from pops_companions.report.tries import TriesItem, read_tries
 from pops_companions.sheet.as_html import Layout, as_html
 from pops_companions.sheet.as_latex import as_latex
 from pops_companions.sheet.as_text import as_text
+from pops_companions.sheet.boards import are_possible
 from pops_companions.sheet.entries import NOT_IN_REPORT, Entry, Sheet, boards_of
 from pops_companions.sheet.languages import LANGUAGES
 from pops_companions.sheet.latex_letters import beyond_latex
-from pops_companions.sheet.solution import TriesShown
+from pops_companions.sheet.solution import TriesShown, shortened
 from pops_companions.sheet.solving import Solving
 from pops_companions.show.twins import Twin, groups
 
@@ -114,6 +115,21 @@ def _add_forms(parser: argparse.ArgumentParser) -> None:
     add("-o", "--output", metavar="SHEET", help="the sheet (default: standard output)")
 
 
+def _add_runs(parser: argparse.ArgumentParser) -> None:
+    """Adds the options for the programs that are run."""
+    add = parser.add_argument
+    add(
+        "--seconds",
+        type=command.seconds,
+        default=SECONDS,
+        metavar="N",
+        help=f"stop a problem after N seconds ({SECONDS:g}); 0 is no limit",
+    )
+    add("-j", "--jobs", type=command.jobs, metavar="N", help="runs at a time")
+    add("--pops", metavar="PROGRAM", help=LOOKED_FOR)
+    add("--pops-tries", metavar="PROGRAM", help=TRIES_LOOKED_FOR)
+
+
 def command_line() -> argparse.ArgumentParser:
     parser = command.parser(
         NAME,
@@ -146,16 +162,7 @@ def command_line() -> argparse.ArgumentParser:
         help="show tries with at most N refutations, if pops-tries is run (1)",
     )
     _add_forms(parser)
-    add(
-        "--seconds",
-        type=command.seconds,
-        default=SECONDS,
-        metavar="N",
-        help=f"stop a problem after N seconds ({SECONDS:g}); 0 is no limit",
-    )
-    add("-j", "--jobs", type=command.jobs, metavar="N", help="runs at a time")
-    add("--pops", metavar="PROGRAM", help=LOOKED_FOR)
-    add("--pops-tries", metavar="PROGRAM", help=TRIES_LOOKED_FOR)
+    _add_runs(parser)
     command.add_encoding(parser)
     return parser
 
@@ -309,7 +316,14 @@ def refuse_others(
     """Raises CommandError where an item of a text isn't of the input."""
     for one in shown:
         stipulation = given[one.number - 1].stipulation if one.number <= len(given) else None
-        if one.stipulation != stipulation or one.board not in (None, boards.get(one.number)):
+        board = boards.get(one.number)
+        # (a sheet has no more of its solutions)
+        item: Union[SoundItem, TriesItem] = shortened(one)[0] if isinstance(one, SoundItem) else one
+        if (
+            one.stipulation != stipulation
+            or one.board not in (None, board)
+            or (board is not None and not are_possible(board.men, item))
+        ):
             message = f"the {name} isn't that of the input: problem {one.number} differs"
             raise CommandError(Status.DEVICE, message)
 

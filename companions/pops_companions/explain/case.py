@@ -5,7 +5,7 @@ from collections.abc import Callable, Iterable, Iterator, Sequence
 from dataclasses import dataclass, replace
 from typing import Optional
 
-from pops_companions.explain.characters import decoded, shown
+from pops_companions.explain.characters import beginning, decoded
 from pops_companions.explain.sentences import sentence
 from pops_companions.input.reading import COMMANDS, CONDITIONS, OPTIONS, Reading, Section, step
 from pops_companions.input.words import LONGEST_WORD, TEXT_WORDS, Span, TextLine, Word, named
@@ -47,21 +47,19 @@ class Case:
 
     @property
     def before(self) -> Optional[Word]:
-        return self.reading.neighbour(-1)
+        return self.reading.word_before
 
     @property
     def after(self) -> Optional[Word]:
-        return self.reading.neighbour(1)
+        return next(self.reading.words_after(), None)
 
     def rest_of_line(self, most: int) -> list[Word]:
         """Returns the faulty word and the words after it on its line, at most `most`, up to one that is
         too long.
         """
-        words = self.reading.words
-        place = words.index(self.word)
-        found: list[Word] = []
-        for word in words[place : place + most]:
-            if word.line != self.word.line or len(word.bytes) > LONGEST_WORD:
+        found = [self.word] if len(self.word.bytes) <= LONGEST_WORD else []
+        for word in self.reading.words_after() if found else ():
+            if len(found) == most or word.line != self.word.line or len(word.bytes) > LONGEST_WORD:
                 break
             found.append(word)
         return found
@@ -78,8 +76,8 @@ class Case:
     @property
     def line_above(self) -> Optional[TextLine]:
         """The text line right before the faulty word."""
-        place = self.reading.tokens.index(self.word) - 1
-        token = self.reading.tokens[place] if place >= 0 else None
+        tokens = self.reading.tokens
+        token = tokens[-2] if len(tokens) > 1 else None
         return token if isinstance(token, TextLine) else None
 
     def says(self, text: str, *marks: Span) -> Explanation:
@@ -113,8 +111,8 @@ class Case:
         return not self.reading.first or self.word is not first
 
     def _copied(self) -> Reading:
-        old = self.reading
-        return replace(old, colours=list(old.colours), men=dict(old.men), openers=list(old.openers))
+        # (nothing that is read later depends on the words of colours and commands)
+        return replace(self.reading, colours=[], men=dict(self.reading.men), openers=[])
 
     def names_here(self) -> list[str]:
         """Returns the words of pops that could stand in place of the faulty one."""
@@ -132,8 +130,7 @@ def at(text: str, *marks: Span) -> Explanation:
 
 def quoted(word: Word) -> str:
     """Returns a word as explanations name it; only the beginning of a long word."""
-    text = shown(word.bytes)
-    return f"`{text if len(text) <= _LONGEST_QUOTED else text[:_LONGEST_QUOTED] + '..'}`"
+    return f"`{beginning(word.bytes, _LONGEST_QUOTED)}`"
 
 
 def listed(names: Sequence[str], last: str = "and") -> str:

@@ -37,6 +37,12 @@ def shown(text: bytes) -> str:
     return "".join(_shown(character) for character in decoded(text))
 
 
+def beginning(text: bytes, most: int) -> str:
+    """Returns the text of some bytes as it is shown; of a long one the first characters, and `..`."""
+    said = "".join(_shown(character) for character in decoded(text)[: most + 1])
+    return said if len(said) <= most else f"{said[:most]}.."
+
+
 def _shown(character: str) -> str:
     if character == " " or not (_is_invisible(character) or _is_control(character)):
         return character

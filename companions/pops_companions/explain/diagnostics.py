@@ -1,7 +1,7 @@
 """What is wrong with a text of problems, as data: where it is, why, and what mends it."""
 
 from bisect import bisect_right
-from collections.abc import Iterable, Iterator, Sequence
+from collections.abc import Iterable, Iterator, Mapping, Sequence
 from dataclasses import dataclass
 from itertools import accumulate
 from typing import Any, Optional
@@ -67,21 +67,13 @@ def diagnostic_object(file: str, found: Diagnostic) -> dict[str, Any]:
     fault = found.fault
     return {
         "file": file,
-        **_range_object(found.ranges[0]),
+        **vars(found.ranges[0]),
         "problem": found.problem,
         "fault": None if fault is None else {"number": fault.number, "text": fault.text},
         "cause": found.cause,
-        "fix": None if found.fix is None else _fix_object(found.fix),
-        "related": [_range_object(it) for it in found.ranges[1:]],
+        "fix": None if found.fix is None else {**vars(found.fix.range), "text": found.fix.text},
+        "related": [{**vars(it)} for it in found.ranges[1:]],
     }
-
-
-def _range_object(range_: Range) -> dict[str, int]:
-    return {"line": range_.line, "column": range_.column, "length": range_.length}
-
-
-def _fix_object(fix: Fix) -> dict[str, Any]:
-    return {**_range_object(fix.range), "text": fix.text}
 
 
 class _Positions:
@@ -115,12 +107,18 @@ class _Positions:
         return (first, *(it for it in marks if it != first))
 
 
-def diagnostics(text: bytes, items: Iterable[Item], every: bool) -> Iterator[Diagnostic]:
+def diagnostics(
+    text: bytes,
+    items: Iterable[Item],
+    every: bool,
+    places: Optional[Mapping[int, Span]] = None,
+) -> Iterator[Diagnostic]:
     """Yields what is wrong with a text whose report has these items, problem by problem, then what
     may not be meant.
 
-    `every` is whether the faults after the first one of a problem are found too. OtherText where
-    the report isn't of this text.
+    `every` is whether the faults after the first one of a problem are found too; `places` has where
+    pops finds the first ones, as far as that is known. OtherText where the report isn't of this
+    text.
     """
     positions, pieces = _Positions(text), cut(text)
 
@@ -129,7 +127,7 @@ def diagnostics(text: bytes, items: Iterable[Item], every: bool) -> Iterator[Dia
         cause = explained.explanation.text
         return Diagnostic(explained.problem, explained.fault, ranges, cause, fix)
 
-    for explained in explain(text, items):
+    for explained in explain(text, items, places):
         yield told(explained, _fix(text, pieces, explained.problem, positions))
         for other in further_faults(text, pieces, explained.problem) if every else ():
             yield told(other.explained(explained.title), None)

@@ -1,4 +1,4 @@
-"""Faults 10, 11 and 19 to 21, which pops reports where a problem or the text ends."""
+"""Faults that pops reports where a problem or the text ends."""
 
 from collections.abc import Iterator
 from typing import Optional
@@ -13,8 +13,9 @@ from pops_companions.input.words import Span, TextLine, Word, named
 
 @first_cause
 def stipulation_missing(case: Case) -> Iterator[Optional[Explanation]]:
-    """Explains fault 10."""
-    yield _empty_problem(case)
+    """Explains a missing stipulation."""
+    if len(case.reading.words) <= (2 if case.reading.first else 1):
+        yield case.tells("nothing_between" if case.reading.first else "no_problem_between")
     openers = case.openers_of(Section.STIPULATION)
     yield _swallowed(case, "Stipulation")
     if openers:
@@ -28,7 +29,7 @@ def stipulation_missing(case: Case) -> Iterator[Optional[Explanation]]:
 
 @first_cause
 def no_men(case: Case) -> Iterator[Optional[Explanation]]:
-    """Explains fault 11."""
+    """Explains that there are no men."""
     yield _swallowed(case, "Pieces")
     openers = case.openers_of(Section.PIECES)
     example = sentence("example_men")
@@ -51,16 +52,6 @@ def _absent(case: Case, what: str, example: str) -> Explanation:
     return case.tells("absent", before.span, what=what, place=place, example=example)
 
 
-def _empty_problem(case: Case) -> Optional[Explanation]:
-    words = case.reading.words
-    begun = words[1:] if case.reading.first else words
-    if len(begun) > 1:
-        return None
-    if case.reading.first:
-        return case.tells("nothing_between")
-    return case.tells("no_problem_between")
-
-
 def _swallowed(case: Case, name: str) -> Optional[Explanation]:
     line = _line_with(case.reading, name)
     if line is None:
@@ -79,13 +70,15 @@ def _line_with(reading: Reading, name: str) -> Optional[TextLine]:
     return None
 
 
-def end_missing(text: bytes, reading: Reading) -> Explanation:
-    """Explains fault 19."""
+def end_problem_missing(text: bytes, reading: Reading) -> Explanation:
+    """Explains that the text ends before EndProblem."""
     return first_of(_causes_of_no_end(text, reading))
 
 
 def _causes_of_no_end(text: bytes, reading: Reading) -> Iterator[Optional[Explanation]]:
-    yield _old_mac(text, reading)
+    if wordings.old_mac(text):
+        for line in reading.text_lines[:1]:
+            yield at(sentence("old_mac_line", opener=line.name), line.word.span)
     for line in reading.text_lines:
         closing = [word for word in line.text.split() if named(word, ["EndProblem"]) and len(word) > 4]
         if closing:
@@ -102,13 +95,6 @@ def _causes_of_no_end(text: bytes, reading: Reading) -> Iterator[Optional[Explan
     yield at(sentence("end_missing"), *_spans(last))
 
 
-def _old_mac(text: bytes, reading: Reading) -> Optional[Explanation]:
-    if not reading.text_lines or not wordings.old_mac(text):
-        return None
-    line = reading.text_lines[0]
-    return at(sentence("old_mac_line", opener=line.name), line.word.span)
-
-
 def _left_out(reading: Reading) -> str:
     if not reading.men:
         return "men"
@@ -117,13 +103,3 @@ def _left_out(reading: Reading) -> str:
 
 def _spans(word: Optional[Word]) -> list[Span]:
     return [word.span] if word is not None else []
-
-
-def input_too_long() -> Explanation:
-    """Explains fault 20."""
-    return at(sentence("input_too_long"))
-
-
-def device_failed() -> Explanation:
-    """Explains fault 21."""
-    return at(sentence("device_failed"))

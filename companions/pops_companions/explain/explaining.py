@@ -1,14 +1,15 @@
 """Explains the faults of a report by the text that it is of."""
 
-from collections.abc import Callable, Iterable, Iterator
+from collections.abc import Callable, Iterable, Iterator, Mapping
 from dataclasses import dataclass
 from typing import Optional
 
 from pops_companions.explain import endings, men, misplaced, options, stipulations
-from pops_companions.explain.case import Case, Explanation
+from pops_companions.explain.case import Case, Explanation, at
+from pops_companions.explain.sentences import sentence
 from pops_companions.input.pieces import cut
 from pops_companions.input.reading import FaultKind, Reading, Section, read_piece
-from pops_companions.input.words import TextWord
+from pops_companions.input.words import Span, TextLine, TextWord
 from pops_companions.report.items import Fault, FaultyItem, Item
 
 
@@ -26,8 +27,12 @@ class ExplainedFault:
     explanation: Explanation
 
 
-def explain(text: bytes, items: Iterable[Item]) -> Iterator[ExplainedFault]:
+def explain(
+    text: bytes, items: Iterable[Item], places: Optional[Mapping[int, Span]] = None
+) -> Iterator[ExplainedFault]:
     """Yields the faults of a report, explained one by one. OtherText where it isn't of this text.
+
+    `places` has where pops finds the faults, by their problems, as far as that is known.
     """
     pieces = cut(text)
     last = 0
@@ -42,13 +47,14 @@ def explain(text: bytes, items: Iterable[Item]) -> Iterator[ExplainedFault]:
             continue
         fault = item.fault
         if fault.number in _WITHOUT_WORD:
-            yield ExplainedFault(number, None, fault, _WITHOUT_WORD[fault.number]())
+            yield ExplainedFault(number, None, fault, at(sentence(_WITHOUT_WORD[fault.number])))
             continue
         if number > len(pieces):
             raise OtherText(f"it has problem {number}, and the text has {len(pieces)}")
         piece = pieces[number - 1]
         reading = read_piece(text, piece)
         _compare(text, number, fault, reading)
+        _compare_place(text, number, reading, (places or {}).get(number))
         yield ExplainedFault(number, _title(reading), fault, explanation(text, reading))
 
 
@@ -57,7 +63,7 @@ def explanation(text: bytes, reading: Reading) -> Explanation:
     assert reading.number is not None
     if reading.at is None:
         if reading.number is FaultKind.END_PROBLEM_MISSING:
-            return endings.end_missing(text, reading)
+            return endings.end_problem_missing(text, reading)
         return misplaced.no_problem(text, bool(reading.text_lines))
     return _of_a_word(reading)(Case(text, reading))
 
@@ -82,32 +88,44 @@ def _compare(text: bytes, number: int, fault: Fault, reading: Reading) -> None:
     )
 
 
+def _compare_place(text: bytes, number: int, reading: Reading, place: Optional[Span]) -> None:
+    own = Span(len(text), len(text)) if reading.at is None else reading.word.span
+    if place is not None and place != own:
+        raise OtherText(
+            f"pops finds the fault of problem {number} in bytes {place.start} up to {place.stop}, and"
+            f" the text as it is has it in bytes {own.start} up to {own.stop}"
+        )
+
+
 def _title(reading: Reading) -> Optional[bytes]:
-    titles = [line.text.strip() for line in reading.text_lines if line.kind is TextWord.TITLE]
-    return titles[-1] if titles and titles[-1] else None
+    title = None
+    for token in [*reading.tokens, *reading.later()]:
+        if isinstance(token, TextLine) and token.kind is TextWord.TITLE:
+            title = token.text.strip()
+    return title or None
 
 
-_WITHOUT_WORD: dict[int, Callable[[], Explanation]] = {
-    FaultKind.INPUT_TOO_LONG: endings.input_too_long,
-    FaultKind.DEVICE_FAILED: endings.device_failed,
+_WITHOUT_WORD: dict[int, str] = {
+    FaultKind.INPUT_TOO_LONG: "input_too_long",
+    FaultKind.DEVICE_FAILED: "device_failed",
 }
 _BY_WORD: dict[FaultKind, Callable[[Case], Explanation]] = {
-    FaultKind.BEGIN_PROBLEM_MISSING: misplaced.begin_missing,
+    FaultKind.BEGIN_PROBLEM_MISSING: misplaced.begin_problem_missing,
     FaultKind.WORD_MISPLACED: misplaced.word_misplaced,
-    FaultKind.WORD_TOO_LONG: misplaced.too_long,
+    FaultKind.WORD_TOO_LONG: misplaced.word_too_long,
     FaultKind.COLOUR_MISSING: men.colour_missing,
     FaultKind.SQUARE_TAKEN: men.square_taken,
-    FaultKind.PAWN_ON_OUTER_RANK: men.pawn_outside,
+    FaultKind.PAWN_ON_OUTER_RANK: men.pawn_on_outer_rank,
     FaultKind.SECOND_KING: men.second_king,
-    FaultKind.BAD_STIPULATION: stipulations.bad,
-    FaultKind.SECOND_STIPULATION: stipulations.second,
+    FaultKind.BAD_STIPULATION: stipulations.bad_stipulation,
+    FaultKind.SECOND_STIPULATION: stipulations.second_stipulation,
     FaultKind.STIPULATION_MISSING: endings.stipulation_missing,
     FaultKind.NO_MEN: endings.no_men,
     FaultKind.SECOND_CONDITION: options.second_condition,
-    FaultKind.BAD_LIMIT: options.bad_number,
+    FaultKind.BAD_LIMIT: options.bad_limit,
     FaultKind.SQUARE_MISSING: options.square_missing,
     FaultKind.EN_PASSANT_IMPOSSIBLE: options.en_passant_impossible,
-    FaultKind.NONE_CASTLES_THERE: options.no_castling_square,
+    FaultKind.NONE_CASTLES_THERE: options.none_castles_there,
     FaultKind.KING_MISSING: men.king_missing,
-    FaultKind.WAITING_SIDE_IN_CHECK: men.in_check,
+    FaultKind.WAITING_SIDE_IN_CHECK: men.waiting_side_in_check,
 }

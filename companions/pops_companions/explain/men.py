@@ -1,4 +1,4 @@
-"""Faults 4 to 7, 14, 17 and 18: men, their colours and squares, and the kings."""
+"""Faults of men: their colours and squares, and the kings."""
 
 import re
 from collections.abc import Iterator
@@ -29,7 +29,7 @@ _DIGITS_FIRST = re.compile(f"([{LETTERS}])((?:[1-8][a-h])+)", re.IGNORECASE)
 
 @first_cause
 def colour_missing(case: Case) -> Iterator[Optional[Explanation]]:
-    """Explains fault 4."""
+    """Explains men without a colour before them."""
     opener = case.reading.opener
     assert opener is not None
     yield from wordings.characters_in(case)
@@ -60,7 +60,7 @@ def _short_command(case: Case) -> Optional[Explanation]:
 
 
 def square_taken(case: Case) -> Explanation:
-    """Explains fault 5."""
+    """Explains a man on a square that is taken."""
     square, placed = _square_of(case)
     before = case.reading.men[square]
     first = span_of(before)
@@ -88,8 +88,8 @@ def square_taken(case: Case) -> Explanation:
     return at(text, first, placed)
 
 
-def pawn_outside(case: Case) -> Explanation:
-    """Explains fault 6."""
+def pawn_on_outer_rank(case: Case) -> Explanation:
+    """Explains a pawn on rank 1 or 8."""
     square, placed = _square_of(case)
     text = sentence("pawn_outside", square=square.name, rank=square.rank)
     if square.rank == (8 if case.reading.colour is Colour.WHITE else 1):
@@ -98,7 +98,7 @@ def pawn_outside(case: Case) -> Explanation:
 
 
 def second_king(case: Case) -> Explanation:
-    """Explains fault 7."""
+    """Explains a second king of a colour."""
     square, placed = _square_of(case)
     colour = case.reading.colour
     assert colour is not None
@@ -137,17 +137,21 @@ def span_of(placed: Placed) -> Span:
 
 @first_cause
 def square_missing(case: Case) -> Iterator[Optional[Explanation]]:
-    """Explains fault 14 among men."""
+    """Explains a man without a square."""
     yield from wordings.characters_in(case)
     yield squares_alone(case)
     yield _colour_before_man(case)
     yield _letter_alone(case)
     yield _short_command(case)
-    yield _rank_first(case)
+    reversed_squares = _DIGITS_FIRST.fullmatch(case.plain)
+    if reversed_squares is not None:
+        squares = re.sub("(.)(.)", r"\2\1", reversed_squares[2])
+        yield case.tells("rank_first", mended=reversed_squares[1] + squares)
     yield wordings.pawn_or_square(case)
     yield wordings.signs(case)
     yield wordings.joined(case)
-    yield _line_of_squares(case)
+    if re.match(r"[A-Za-z](?:[a-h][1-8])+(?:-|\.\.+|–)[a-h][1-8]", case.plain):
+        yield case.tells("range_of_squares", letter=case.plain[0].upper())
     yield man_by_name(case)
     yield two_letters(case)
     yield _bad_square(case)
@@ -163,21 +167,6 @@ def _letter_alone(case: Case) -> Optional[Explanation]:
     if len(case.word.bytes) > 1:
         return None
     return case.tells("no_square", plain=case.plain)
-
-
-def _rank_first(case: Case) -> Optional[Explanation]:
-    found = _DIGITS_FIRST.fullmatch(case.plain)
-    if found is None:
-        return None
-    mended = found[1] + re.sub("(.)(.)", r"\2\1", found[2])
-    return case.tells("rank_first", mended=mended)
-
-
-def _line_of_squares(case: Case) -> Optional[Explanation]:
-    found = re.match(r"[A-Za-z](?:[a-h][1-8])+(?:-|\.\.+|–)[a-h][1-8]", case.plain)
-    if found is None:
-        return None
-    return case.tells("range_of_squares", letter=case.plain[0].upper())
 
 
 def _bad_square(case: Case) -> Explanation:
@@ -200,7 +189,7 @@ def _bad_square(case: Case) -> Explanation:
 
 
 def king_missing(case: Case) -> Explanation:
-    """Explains fault 17."""
+    """Explains that the side to be mated has no king."""
     stipulation, given = case.reading.stipulation, case.reading.stipulation_word
     assert stipulation is not None and given is not None
     side = to_be_mated(stipulation)
@@ -234,8 +223,8 @@ def _square_name(case: Case, placed: Placed) -> str:
     return next(square.name for square, it in case.reading.men.items() if it is placed)
 
 
-def in_check(case: Case) -> Explanation:
-    """Explains fault 18."""
+def waiting_side_in_check(case: Case) -> Explanation:
+    """Explains that the side that waits is in check."""
     reading = case.reading
     assert reading.stipulation is not None and reading.stipulation_word is not None
     starter = reading.stipulation.starter

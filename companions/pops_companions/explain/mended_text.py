@@ -4,8 +4,8 @@ import re
 from dataclasses import dataclass
 from typing import Optional
 
-from pops_companions.explain.mending import MOST_FAULTS, Edit, edit_for
-from pops_companions.explain.near import Near
+from pops_companions.explain.mending import MOST_FAULTS, edit_for
+from pops_companions.explain.near import Edit, Near
 from pops_companions.input.pieces import last_block
 from pops_companions.input.reading import Reading
 from pops_companions.input.words import Span, named, short_forms
@@ -131,7 +131,7 @@ class _Mender:
             if line is None or not line.has(reading):
                 line = _Line.of(near.text, reading)
             line.note(edit)
-            near.text = edit.of(near.text)
+            near.change(edit)
             self.made.mended += 1
             mended += 1
 

@@ -7,13 +7,13 @@ on, past the place of the fault.
 import re
 from collections.abc import Callable, Iterator, Sequence
 from dataclasses import dataclass
-from typing import NamedTuple, Optional
+from typing import Optional
 
 from pops_companions.explain.case import Case, Explanation
 from pops_companions.explain.characters import decoded, with_blanks
 from pops_companions.explain.explaining import ExplainedFault, explanation
 from pops_companions.explain.fault_texts import FAULT_TEXTS
-from pops_companions.explain.near import Near, near_of
+from pops_companions.explain.near import Edit, Near, near_of
 from pops_companions.explain.other_men import letters_of, men_words
 from pops_companions.explain.vocabulary import alphabets_of, is_unread_command, unread
 from pops_companions.input.pieces import Piece, cut
@@ -28,6 +28,7 @@ from pops_companions.input.reading import (
     Reading,
     Section,
     is_man,
+    read_on,
     read_piece,
     squares_of,
 )
@@ -65,6 +66,8 @@ _DENIED = re.compile(
     rb"(?i)(?:^|[^a-z])(not|no|none|or|off|false|without|except|nicht|keine?|ohne|oder|aus|pas|non|sans|ou)(?![a-z])"
     rb"|[=:][ \t]*0"
 )
+# How many bytes of a line are looked at on either side of an edit.
+_OF_LINE = 1000
 # A sign that begins a comment, or denies, right before a word.
 _SIGN_FIRST = re.compile(rb"(?:[;!~*]|//|/\*|--?)[A-Za-z]")
 _SIGN_OF_NOT = re.compile(rb"[!~-][ \t]*[A-Za-z]")
@@ -85,16 +88,6 @@ _AT_THE_END = (
     FaultKind.KING_MISSING,
     FaultKind.WAITING_SIDE_IN_CHECK,
 )
-
-
-class Edit(NamedTuple):
-    """Some bytes of a text, and what stands there instead."""
-
-    span: Span
-    text: bytes
-
-    def of(self, text: bytes) -> bytes:
-        return text[: self.span.start] + self.text + text[self.span.stop :]
 
 
 @dataclass(frozen=True)
@@ -143,10 +136,18 @@ def edit_for(
         if _is_unsure(text, reading, edit):
             continue
         changed = edit.of(text)
-        again = read_number(changed, number)
+        again = _read_again(changed, number, reading, edit)
         if again is not None and (again.number is None or _left(changed, again) <= left):
             return edit
     return None
+
+
+def _read_again(changed: bytes, number: int, reading: Reading, edit: Edit) -> Optional[Reading]:
+    """Reads a problem after an edit: only what may have changed of it."""
+    before = reading.before_fault()
+    if before.stays(changed, edit.span.start):
+        return read_on(changed, before)
+    return read_number(changed, number)
 
 
 def _may_be_in_another_language(text: bytes, reading: Reading, said: Explanation) -> bool:
@@ -169,8 +170,8 @@ def _is_unsure(text: bytes, reading: Reading, edit: Edit) -> bool:
     start, stop = edit.span.start, edit.span.stop
     if reading.at is None or b"\n" in text[start:stop]:
         return False
-    line, end = text.rfind(b"\n", 0, start) + 1, text.find(b"\n", stop)
-    before, after = text[line:start], text[stop : len(text) if end < 0 else end]
+    before = text[max(start - _OF_LINE, 0) : start].rpartition(b"\n")[2]
+    after = text[stop : stop + _OF_LINE].partition(b"\n")[0]
     if reading.section is Section.STIPULATION and _SIDE.search(before + b" " + after):
         return True
     own_bytes = text[start:stop]
@@ -203,7 +204,8 @@ def _takes_men_over(reading: Reading, edit: Edit) -> bool:
     colour = named(edit.text.split(b" ")[0], COLOURS)
     if colour is None or reading.section is not Section.PIECES or b" " not in edit.text:
         return False
-    after = next((it for it in reading.words if it.start >= edit.span.stop), None)
+    words = (*reading.words, *reading.words_after())
+    after = next((it for it in words if it.start >= edit.span.stop), None)
     is_other = reading.colour is None or reading.colour.name != colour.upper()
     return is_other and after is not None and is_man(after.bytes)
 
@@ -395,7 +397,7 @@ def further_faults(text: bytes, pieces: Sequence[Piece], number: int) -> Iterato
             if one.span == Span(0, len(near.text)) or not one.text and _ends_problem(near, one.span):
                 return
             back.note(one)
-            near.text = one.of(near.text)
+            near.change(one)
 
 
 def _ends_problem(near: Near, place: Span) -> bool:

@@ -1,4 +1,4 @@
-"""Faults 1 to 3: the text doesn't begin with BeginProblem, a word isn't known where it stands, a
+"""Faults of words: the text doesn't begin with BeginProblem, a word isn't known where it stands, a
 word is too long."""
 
 import re
@@ -35,7 +35,7 @@ _FILES = tuple((head.encode("latin-1"), what) for head, what in DATA["files"])
 
 
 def no_problem(text: bytes, has_text_lines: bool) -> Explanation:
-    """Explains fault 1 at the end of a text."""
+    """Explains that a text ends before any word."""
     if has_text_lines:
         if wordings.old_mac(text):
             return at(sentence("old_mac"), Span(0, len(text)))
@@ -44,14 +44,20 @@ def no_problem(text: bytes, has_text_lines: bool) -> Explanation:
 
 
 @first_cause
-def begin_missing(case: Case) -> Iterator[Optional[Explanation]]:
-    """Explains fault 1, with a word."""
-    yield _collection(case)
+def begin_problem_missing(case: Case) -> Iterator[Optional[Explanation]]:
+    """Explains another first word than BeginProblem."""
+    # (a collection in YAML or JSON, as Olive and YACPDB have them)
+    if _COLLECTION.search(case.text):
+        yield case.tells("collection")
     yield from wordings.characters_in(case)
-    yield _other_file(case)
-    yield _report(case)
+    for head, what in _FILES:
+        if case.text.startswith(head):
+            yield case.tells("other_file", what=what)
+    if case.text.startswith(b"problem 1\n"):
+        yield case.tells("report")
     yield wordings.position(case)
-    yield _command_first(case)
+    if _belongs_inside(case):
+        yield case.tells("begin_missing")
     yield wordings.comment(case)
     yield wordings.signs(case)
     yield wordings.parted(case)
@@ -60,44 +66,20 @@ def begin_missing(case: Case) -> Iterator[Optional[Explanation]]:
     yield case.tells("first_word")
 
 
-def _collection(case: Case) -> Optional[Explanation]:
-    """Explains a collection in YAML or JSON, as Olive and YACPDB have them."""
-    if not _COLLECTION.search(case.text):
-        return None
-    return case.tells("collection")
-
-
-def _other_file(case: Case) -> Optional[Explanation]:
-    for head, what in _FILES:
-        if case.text.startswith(head):
-            return case.tells("other_file", what=what)
-    return None
-
-
-def _report(case: Case) -> Optional[Explanation]:
-    if not re.match(rb"problem 1\n", case.text):
-        return None
-    return case.tells("report")
-
-
-def _command_first(case: Case) -> Optional[Explanation]:
-    name = named(case.word.bytes, COMMANDS)
-    if name is None and unread(case.plain) is None and not _belongs_inside(case):
-        return None
-    return case.tells("begin_missing")
-
-
 def _belongs_inside(case: Case) -> bool:
+    """Returns whether a word is one of a problem, or of Popeye."""
     word = case.word.bytes
-    names = (*CONDITIONS, *OPTIONS, *COLOURS)
-    return named(word, names) is not None or is_man(word) or looks_like_stipulation(case.plain)
+    is_name = named(word, (*COMMANDS, *CONDITIONS, *OPTIONS, *COLOURS)) is not None
+    is_known = is_name or unread(case.plain) is not None
+    return is_known or is_man(word) or looks_like_stipulation(case.plain)
 
 
 @first_cause
 def word_misplaced(case: Case) -> Iterator[Optional[Explanation]]:
-    """Explains fault 2."""
+    """Explains an unknown or misplaced word."""
     section = case.reading.section
-    yield _second_begin(case)
+    if named(case.word.bytes, ["BeginProblem"]) is not None:
+        yield case.tells("begin_again" if case.before is None else "begin_once")
     yield from wordings.characters_in(case)
     yield wanted.numbers(case)
     yield wanted.men(case)
@@ -110,18 +92,13 @@ def word_misplaced(case: Case) -> Iterator[Optional[Explanation]]:
     yield wordings.of_popeye(case)
     yield wordings.signs(case)
     yield wordings.comment(case)
-    yield _value_without_option(case)
+    if section is Section.OPTION and is_number(case.word.bytes):
+        yield case.tells("number_alone")
+    if section is Section.OPTION and squares_of(case.word.bytes):
+        yield case.tells("square_alone")
     yield from wordings.spelling(case)
     yield wordings.rest_of_a_text(case)
     yield _unknown(case)
-
-
-def _second_begin(case: Case) -> Optional[Explanation]:
-    if named(case.word.bytes, ["BeginProblem"]) is None:
-        return None
-    if case.before is None:
-        return case.tells("begin_again")
-    return case.tells("begin_once")
 
 
 def _wrong_section(case: Case) -> Optional[Explanation]:
@@ -180,35 +157,15 @@ def _belongs(case: Case, what: str, section: Section) -> Explanation:
 
 def _causes_among_men(case: Case) -> Iterator[Optional[Explanation]]:
     yield squares_alone(case)
-    yield _colour_letter(case)
-    yield _letter_for_digit(case)
+    word = case.word.bytes
+    if word[:1] == b"w" and word[1:2].isupper() and is_man(word[1:]):
+        yield case.tells("white_apart", rest=case.plain[1:])
+    mended = re.sub("([a-hA-H])[lI|]", r"\g<1>1", case.plain)
+    if mended != case.plain and case.fits(mended):
+        yield case.tells("letter_for_digit", mended=mended)
     yield man_by_name(case)
     yield foreign_letter(case)
     yield two_letters(case)
-
-
-def _colour_letter(case: Case) -> Optional[Explanation]:
-    word = case.word.bytes
-    if word[:1] != b"w" or not word[1:2].isupper() or not is_man(word[1:]):
-        return None
-    return case.tells("white_apart", rest=case.plain[1:])
-
-
-def _letter_for_digit(case: Case) -> Optional[Explanation]:
-    mended = re.sub("([a-hA-H])[lI|]", r"\g<1>1", case.plain)
-    if mended == case.plain or not case.fits(mended):
-        return None
-    return case.tells("letter_for_digit", mended=mended)
-
-
-def _value_without_option(case: Case) -> Optional[Explanation]:
-    if case.reading.section is not Section.OPTION:
-        return None
-    if is_number(case.word.bytes):
-        return case.tells("number_alone")
-    if squares_of(case.word.bytes):
-        return case.tells("square_alone")
-    return None
 
 
 def _unknown(case: Case) -> Explanation:
@@ -227,8 +184,8 @@ def _unknown(case: Case) -> Explanation:
 
 
 @first_cause
-def too_long(case: Case) -> Iterator[Optional[Explanation]]:
-    """Explains fault 3."""
+def word_too_long(case: Case) -> Iterator[Optional[Explanation]]:
+    """Explains a word that is too long."""
     head = sentence("long_word", bytes=len(case.word.bytes), most=LONGEST_WORD)
     yield wordings.utf_16(case)
     blanks = [it for it in case.plain if it in "\u00a0\u202f\u2007\u3000"]

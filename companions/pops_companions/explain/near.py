@@ -5,12 +5,22 @@ from collections.abc import Sequence
 from typing import NamedTuple, Optional
 
 from pops_companions.input.pieces import Piece, cut, stop_after
-from pops_companions.input.reading import Reading, read_piece
+from pops_companions.input.reading import Reading, read_on
 from pops_companions.input.words import Span
 
 # What begins a text in which the problem at hand isn't the first one.
 _BEGIN = b"Beg "
 _WORD = re.compile(rb"\S*")
+
+
+class Edit(NamedTuple):
+    """Some bytes of a text, and what stands there instead."""
+
+    span: Span
+    text: bytes
+
+    def of(self, text: bytes) -> bytes:
+        return text[: self.span.start] + self.text + text[self.span.stop :]
 
 
 class End(NamedTuple):
@@ -24,7 +34,8 @@ class Near:
     """A problem of a text, up to a word that begins or ends another one, as a text of its own.
 
     There it has the number `number`. The first `begin` bytes stand for what is before it; the others
-    begin at `start` in the whole text, and end at `stop`. `line_ends` are those before it.
+    begin at `start` in the whole text, and end at `stop`. `line_ends` are those before it. What was
+    read is kept: after a change the reading goes on where the change is.
     """
 
     def __init__(self, whole: bytes, start: int, closing: bytes, line_ends: int = 0):
@@ -35,6 +46,7 @@ class Near:
         self.start = self.stop = start
         self.line_ends = line_ends
         self._whole = whole
+        self._known: Optional[Reading] = self._unread(self.begin, line_ends)
         self.grow()
 
     @property
@@ -51,21 +63,36 @@ class Near:
         self.stop = stop
         return True
 
+    def _unread(self, start: int, line_ends: int) -> Reading:
+        return Reading(self.text, start, line_ends + 1, self.number == 1)
+
     def widen(self, before: bytes, number: int) -> None:
         """Becomes the whole text, of which this is before the problem."""
         self.text = before + self.text[self.begin :] + self._whole[self.stop :]
         self.number, self.stop = number, len(self._whole)
         self.begin = self.start = self.line_ends = 0
+        self._forget()
+
+    def _forget(self) -> None:
+        """Forgets what was read. The text of its own may have lost the problem."""
+        piece = self._piece()
+        self._known = None
+        if piece is not None:
+            self._known = self._unread(piece.start, piece.line_ends + self.line_ends)
 
     def read(self) -> Optional[Reading]:
         """Reads the problem, and takes in as much as it needs; None where no problem has its number."""
-        while True:
-            piece = self._piece()
-            if piece is None:
-                return None
-            reading = read_piece(self.text, piece._replace(line_ends=piece.line_ends + self.line_ends))
+        while self._known is not None:
+            self._known = reading = read_on(self.text, self._known)
             if reading.number is None or reading.at is not None or not self.grow():
                 return reading
+        return None
+
+    def change(self, edit: Edit) -> None:
+        """Makes an edit. What was read before it stays."""
+        self.text = edit.of(self.text)
+        if self._known is not None and not self._known.before_fault().stays(self.text, edit.span.start):
+            self._forget()
 
     def end(self) -> Optional[End]:
         """Returns where the problem ends; None where the whole text does."""

@@ -1,4 +1,4 @@
-"""Faults 12 to 16: a second condition, and the numbers and squares of options."""
+"""Faults of conditions and options: a second condition, and the numbers and squares of options."""
 
 import re
 from collections.abc import Iterator
@@ -29,7 +29,7 @@ _SIDES = re.compile(r"white|black|w|b|[kq]{1,4}|0-0(-0)?|o-o(-o)?|-|both|yes|no"
 
 
 def second_condition(case: Case) -> Explanation:
-    """Explains fault 12."""
+    """Explains a second condition."""
     given = case.reading.condition_word
     assert given is not None and case.reading.condition is not None
     if named(case.word.bytes, [case.reading.condition.value]):
@@ -38,8 +38,8 @@ def second_condition(case: Case) -> Explanation:
 
 
 @first_cause
-def bad_number(case: Case) -> Iterator[Optional[Explanation]]:
-    """Explains fault 13."""
+def bad_limit(case: Case) -> Iterator[Optional[Explanation]]:
+    """Explains a wrong or missing number of MaxSolutions."""
     option = case.reading.option
     assert option is not None
     yield wordings.invisible(case)
@@ -72,7 +72,7 @@ def _missing(case: Case, option: Word, what: str, example: str) -> Optional[Expl
 
 @first_cause
 def square_missing(case: Case) -> Iterator[Optional[Explanation]]:
-    """Explains fault 14 after EnPassant and NoCastling."""
+    """Explains missing squares of EnPassant and NoCastling."""
     option = case.reading.option
     assert option is not None
     one = case.reading.awaited is Awaited.SQUARE
@@ -93,7 +93,7 @@ def square_missing(case: Case) -> Iterator[Optional[Explanation]]:
 
 
 def en_passant_impossible(case: Case) -> Explanation:
-    """Explains fault 15."""
+    """Explains a square of EnPassant that no pawn can have crossed."""
     reading = case.reading
     stipulation, given, crossed = reading.stipulation, reading.crossed_word, reading.crossed
     assert stipulation is not None and given is not None and crossed is not None
@@ -126,8 +126,8 @@ def _with_rank(text: str, wants: EnPassantWants, starter: Colour, crossed: Squar
     return sentence("passed_other", text=text, square=crossed.name, there=crossed.rank)
 
 
-def no_castling_square(case: Case) -> Explanation:
-    """Explains fault 16."""
+def none_castles_there(case: Case) -> Explanation:
+    """Explains a square of NoCastling where no king or rook castles."""
     square, place = case.reading.square, case.reading.square_place
     assert square is not None
     text = sentence("no_castling_square", squares=listed(CASTLING_SQUARES), square=square.name)

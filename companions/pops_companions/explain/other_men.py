@@ -8,10 +8,18 @@ from pops_companions.explain.case import Case, Explanation, listed
 from pops_companions.explain.characters import decoded
 from pops_companions.explain.sentences import DATA, sentence
 from pops_companions.explain.vocabulary import Alphabet, alphabets_of, alphabets_with
-from pops_companions.input.reading import Section, is_man, kind_of, king_of, squares_of
-from pops_companions.input.words import Word, named
+from pops_companions.input.reading import (
+    SECTIONS,
+    Section,
+    is_man,
+    kind_of,
+    king_of,
+    squares_of,
+)
+from pops_companions.input.words import Word, forms_of
 
 _NAMES = {kind.word: kind for kind in Kind}
+_SECTION_FORMS = forms_of(SECTIONS)
 _CYRILLIC_MEN: str = DATA["characters"]["cyrillicMen"]
 
 
@@ -114,8 +122,8 @@ def men_words(case: Case) -> list[Word]:
     """
     words = []
     inside = False
-    for word in case.reading.words:
-        name = named(word.bytes, [section.value for section in Section])
+    for word in [*case.reading.words, *case.reading.words_after()]:
+        name = _SECTION_FORMS.get(word.bytes.lower())
         if name is not None:
             inside = name == Section.PIECES.value
         elif inside and word.bytes[:1].isalpha() and squares_of(word.bytes[1:]):

@@ -1,4 +1,4 @@
-"""Faults 8 to 10: a bad, a second or no stipulation."""
+"""Faults of stipulations: a bad one, a second one."""
 
 import re
 from collections.abc import Iterator, Sequence
@@ -51,8 +51,8 @@ def looks_like_stipulation(word: str) -> bool:
 
 
 @first_cause
-def bad(case: Case) -> Iterator[Optional[Explanation]]:
-    """Explains fault 8."""
+def bad_stipulation(case: Case) -> Iterator[Optional[Explanation]]:
+    """Explains a bad stipulation."""
     yield wordings.utf_16(case)
     yield wordings.invisible(case)
     yield _half(case)
@@ -62,7 +62,7 @@ def bad(case: Case) -> Iterator[Optional[Explanation]]:
     yield _section_empty(case)
     yield wordings.of_popeye(case)
     yield _without_number(case)
-    yield _number(case)
+    yield _wrong_number(case, case.plain)
     yield _star(case)
     yield wanted.joined(case)
     yield _other_play(case)
@@ -137,10 +137,6 @@ def _without_number(case: Case) -> Optional[Explanation]:
         if case.fits(whole):
             return case.tells("number_parted", case.after.span, whole=whole)
     return case.tells("number_missing_in_word", plain=case.plain)
-
-
-def _number(case: Case) -> Optional[Explanation]:
-    return _wrong_number(case, case.plain)
 
 
 def _wrong_number(case: Case, stipulation: str) -> Optional[Explanation]:
@@ -269,8 +265,16 @@ def _said_in_words(case: Case, words: Sequence[Word], begin: int = 0) -> Optiona
     return case.tells("in_words_as", sign=sign)
 
 
-def second(case: Case) -> Explanation:
-    """Explains fault 9."""
+def _has_two_pieces(case: Case) -> bool:
+    """Returns whether two Pieces show that there may be two problems."""
+    count = len(case.openers_of(Section.PIECES))
+    for word in case.reading.words_after() if count < 2 else ():
+        count += 1 if named(word.bytes, [Section.PIECES.value]) else 0
+    return count > 1
+
+
+def second_stipulation(case: Case) -> Explanation:
+    """Explains a second stipulation."""
     given = case.reading.stipulation_word
     assert given is not None
     return first_of(_causes_of_a_second(case, given))
@@ -281,9 +285,7 @@ def _causes_of_a_second(case: Case, given: Word) -> Iterator[Optional[Explanatio
     if not looks_like_stipulation(case.plain):
         yield wordings.comment(case)
         yield wordings.signs(case)
-    # (with two Pieces they may be two problems)
-    pieces = [it for it in case.reading.words if named(it.bytes, [Section.PIECES.value])]
-    if case.word.bytes.lower() == given.bytes.lower() and len(pieces) < 2:
+    if case.word.bytes.lower() == given.bytes.lower() and not _has_two_pieces(case):
         text = sentence("stipulation_twice", given=quoted(given))
         yield case.says(text, given.span)
     yield case.tells("second_stipulation", given.span, given=quoted(given))

@@ -9,7 +9,7 @@ from pops_companions.explain import characters
 from pops_companions.explain.case import NAMES, Case, Explanation
 from pops_companions.explain.sentences import DATA, sentence
 from pops_companions.explain.vocabulary import foreign, unread
-from pops_companions.input.reading import CONDITIONS, Section, is_man, squares_of, stipulation_of
+from pops_companions.input.reading import CONDITIONS, Section, is_man, stipulation_of
 from pops_companions.input.words import TEXT_WORDS, named
 
 _SIGNS: dict[str, str] = DATA["signs"]

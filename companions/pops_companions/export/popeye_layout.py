@@ -115,9 +115,8 @@ def solution_lines(item: TriesItem, shown: Shown) -> Iterator[str]:
 
 
 def _set_play(phase: Phase) -> Iterator[str]:
-    nodes = [it for it in phase.solutions if isinstance(it, Node)]
-    if nodes:
-        yield from _tree(nodes, 1)
+    if phase.nodes:
+        yield from _tree(phase.nodes, 1)
         yield ""
 
 
@@ -138,9 +137,8 @@ def _first_move(first: FirstMove, sign: str, shown: Shown) -> Iterator[str]:
 
 def help_lines(phase: Phase) -> Iterator[str]:
     """Yields the lines of a phase of help play."""
-    for line in phase.solutions:
-        if isinstance(line, HelpLine):
-            yield "  " + _help_line(line)
+    for line in phase.help_lines:
+        yield "  " + _help_line(line)
 
 
 def _help_line(line: HelpLine) -> str:

@@ -10,7 +10,8 @@ from functools import lru_cache
 from typing import NamedTuple
 
 from pops_companions.chess.men import LETTERS as KIND_LETTERS
-from pops_companions.chess.men import Colour, Man, Square
+from pops_companions.chess.men import Changes, Man, Square
+from pops_companions.report.items import Board
 
 EMPTY = "."
 LETTERS = KIND_LETTERS + KIND_LETTERS.lower()
@@ -47,17 +48,12 @@ class Variant(NamedTuple):
 
 def board_of(men: dict[Square, Man]) -> str:
     """Returns the position of these men."""
-    letters = (men[square].letter if square in men else EMPTY for square in Square.of_diagram())
-    return "".join(letters)
+    return Board.of_men(men).letters
 
 
 def men_of(board: str) -> dict[Square, Man]:
     """Returns the men of a position."""
-    return {
-        square: Man.of_letter(letter)
-        for square, letter in zip(Square.of_diagram(), board)
-        if letter != EMPTY
-    }
+    return Board.of_letters(board).men
 
 
 @lru_cache(maxsize=None)
@@ -139,24 +135,11 @@ def differences(board: str, other: str) -> list[str]:
     """Returns what makes another position of a board, in words; the men that go and come are
     paired.
     """
-    before, after = men_of(board), men_of(other)
-    gone = {square: man for square, man in before.items() if after.get(square) != man}
-    new = {square: man for square, man in after.items() if before.get(square) != man}
-    texts = []
-    for square, man in list(gone.items()):
-        moved = next((it for it, other_man in new.items() if other_man == man), None)
-        if moved is not None:
-            texts.append(f"{named(man, square)} on {moved.name}")
-            del gone[square], new[moved]
-    for (square, man), (new_square, new_man) in zip(list(gone.items()), list(new.items())):
-        texts.append(f"{named(new_man, new_square)} for {named(man, square)}")
-        del gone[square], new[new_square]
-    texts.extend(f"without {named(man, square)}" for square, man in gone.items())
-    texts.extend(f"with {named(man, square)}" for square, man in new.items())
-    return texts
-
-
-def named(man: Man, square: Square) -> str:
-    """Returns a man with its square, as `white Ra1`."""
-    colour = "white" if man.colour is Colour.WHITE else "black"
-    return f"{colour} {man.kind.value}{square.name}"
+    changes = Changes(men_of(board), men_of(other))
+    texts = [f"{man.on(square)} on {target.name}" for man, square, target in changes.moved()]
+    gone = [man.on(square) for square, man in changes.gone.items()]
+    new = [man.on(square) for square, man in changes.new.items()]
+    paired = min(len(gone), len(new))
+    texts += [f"{one} for {other}" for one, other in zip(new, gone)]
+    texts += [f"without {man}" for man in gone[paired:]]
+    return texts + [f"with {man}" for man in new[paired:]]

@@ -13,17 +13,18 @@ from contextlib import closing
 from dataclasses import astuple, dataclass, field, fields
 from typing import Any, NamedTuple, NoReturn, Optional
 
-from pops_companions.chess.men import Colour, Man, Square
+from pops_companions.chess.men import Man, Square
 from pops_companions.find.boards import (
     EMPTY,
     LETTERS,
     Variant,
     differences,
     hashes,
-    men_of,
     variants,
 )
 from pops_companions.find.entries import Entry, mirrored_play
+from pops_companions.report.items import Board
+from pops_companions.show.diagram import numbers_of_men
 
 # The mark that the file is a collection of this form.
 _FORM = 0x706F7031
@@ -227,7 +228,8 @@ class Collection:
         question = f"SELECT {_COLUMNS} FROM problems{where} ORDER BY id"
         for row in self._asked(question, values):
             entry = self._entry_of(row)
-            if wanted.counts is not None and wanted.counts != _counts(entry.board):
+            counts = wanted.counts
+            if counts is not None and counts != numbers_of_men(Board.of_letters(entry.board)):
                 continue
             if wanted.dates is None or _is_within(entry.date, wanted.dates):
                 yield entry
@@ -359,11 +361,6 @@ def _escaped(text: str) -> str:
     for sign in "\\%_":
         text = text.replace(sign, "\\" + sign)
     return text
-
-
-def _counts(board: str) -> tuple[int, int]:
-    colours = [man.colour for man in men_of(board).values()]
-    return colours.count(Colour.WHITE), colours.count(Colour.BLACK)
 
 
 def _rank(found: Found) -> tuple[int, int]:

@@ -11,7 +11,7 @@ from pops_companions.export.problems import Problem, read_problems
 from pops_companions.find.boards import board_of, men_of
 from pops_companions.find.dates import date_of
 from pops_companions.import_.words import Unreadable
-from pops_companions.report.items import HelpLine, Node, PhaseKind, SoundItem
+from pops_companions.report.items import Node, PhaseKind, SoundItem
 from pops_companions.report.moves import Mark
 from pops_companions.report.reader import ReportError, read_report
 from pops_companions.review.mates import mates_in
@@ -154,16 +154,14 @@ def play_of(item: SoundItem) -> Optional[str]:
 
     None where the report doesn't show them.
     """
-    for phase in item.phases or ():
-        if phase.kind is PhaseKind.PLAY and phase.solutions:
-            nodes = [it for it in phase.solutions if isinstance(it, Node)]
-            lines = [it.text for it in phase.solutions if isinstance(it, HelpLine)]
-            if lines:
-                return " | ".join(sorted(lines))
-            keys = ", ".join(sorted(node.move.text for node in nodes))
-            mates = sorted(set(_mates(nodes)))
-            return f"{keys}: {', '.join(mates)}" if mates else None
-    return None
+    play = item.phase(PhaseKind.PLAY)
+    if play is None or not play.solutions:
+        return None
+    if play.help_lines:
+        return " | ".join(sorted(play.texts))
+    keys = ", ".join(sorted(node.move.text for node in play.nodes))
+    mates = sorted(set(_mates(play.nodes)))
+    return f"{keys}: {', '.join(mates)}" if mates else None
 
 
 def _mates(nodes: Iterable[Node]) -> Iterator[str]:

@@ -11,21 +11,11 @@ from pops_companions.input.writing import pieces_line
 from pops_companions.report.items import Board
 from pops_companions.review.naming import counted
 from pops_companions.show import diagram
+from pops_companions.show.page import framed
 from pops_companions.show.titles import printable
+from pops_companions.stored import stored_text
 
-_STYLE = """
-body { font: 11pt/1.35 serif; margin: 1.5em auto; max-width: 60em; padding: 0 1em;
-  color: #000; background: #fff; overflow-wrap: anywhere; }
-h1 { font-size: 1.5em; font-weight: normal; border-bottom: 1px solid #000; }
-h2 { font-size: 1.1em; margin: 1.2em 0 .3em; border-top: 1px solid #bbb; padding-top: .6em; }
-.found { display: flex; flex-wrap: wrap; gap: 1.2em; }
-figure { margin: 0; width: 13em; break-inside: avoid; }
-figure.asked { outline: 1px solid #999; outline-offset: .4em; }
-figcaption { font-size: .9em; }
-.how { font-style: italic; }
-.where { color: #444; }
-.diagram { width: 100%; display: block; }
-"""
+_STYLE = stored_text("find/showing.css")
 
 
 class Answer(NamedTuple):
@@ -59,14 +49,7 @@ def as_text(answer: Answer) -> str:
 
 def as_page(answers: Iterable[Answer], heading: str) -> str:
     """Returns a page with the diagrams of all that was found."""
-    title = _safe(heading)
-    parts = [
-        '<!DOCTYPE html>\n<html lang="en">\n<head>\n<meta charset="utf-8"/>\n',
-        '<meta name="viewport" content="width=device-width"/>\n',
-        f"<title>{title}</title>\n<style>{_STYLE}</style>\n</head>\n<body>\n",
-        diagram.shapes(),
-        f"<h1>{title}</h1>\n",
-    ]
+    parts = []
     for answer in answers:
         parts.append(f"<h2>{_safe(answer.heading)}: {answer.counted}</h2>\n")
         parts.append('<div class="found">\n')
@@ -77,11 +60,11 @@ def as_page(answers: Iterable[Answer], heading: str) -> str:
             where = f"{found.entry.source}, problem {found.entry.number}"
             parts.append(_figure(found.entry, "hit", [*how, ("where", where)]))
         parts.append("</div>\n")
-    return "".join([*parts, "</body>\n</html>\n"])
+    return framed(_safe(heading), [_STYLE], parts)
 
 
 def _figure(entry: Entry, kind: str, texts: list["tuple[str, str]"]) -> str:
-    board = Board(tuple(entry.board[start : start + 8] for start in range(0, 64, 8)))
+    board = Board.of_letters(entry.board)
     below = "".join(f'<br/><span class="{name}">{_safe(text)}</span>' for name, text in texts)
     return (
         f'<figure class="{kind}">{diagram.diagram(board)}\n'

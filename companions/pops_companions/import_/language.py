@@ -7,6 +7,7 @@ from enum import Enum
 from typing import AbstractSet, Any, NamedTuple, Optional, TypeVar
 
 from pops_companions.chess.men import Kind
+from pops_companions.input.reading import OPTIONS
 from pops_companions.stored import stored
 
 Meaning = TypeVar("Meaning")
@@ -74,17 +75,8 @@ class Option(Enum):
     QUODLIBET = "Quodlibet"
 
 
-# The commands that pops reads. A short form that fits several commands means one of these.
-OWN_OPTIONS = frozenset(
-    (
-        Option.SET_PLAY,
-        Option.VARIATION,
-        Option.NO_BOARD,
-        Option.MAX_SOLUTIONS,
-        Option.EN_PASSANT,
-        Option.NO_CASTLING,
-    )
-)
+# The options that pops reads. A short form that fits several options means one of these.
+OWN_OPTIONS = frozenset(Option(it) for it in OPTIONS)
 
 
 class Twinning(Enum):

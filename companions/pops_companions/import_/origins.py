@@ -4,19 +4,8 @@ import re
 from collections.abc import Sequence
 from typing import NamedTuple
 
-MONTHS = (
-    "January",
-    "February",
-    "March",
-    "April",
-    "May",
-    "June",
-    "July",
-    "August",
-    "September",
-    "October",
-    "November",
-    "December",
+MONTHS = tuple(
+    "January February March April May June July August September October November December".split()
 )
 # What the parts of a date in a source are named by, as in `date.year`.
 BELOW_DATE = "date."

@@ -50,9 +50,12 @@ def _change(words: Words, twinning: Twinning) -> Change:
     line = words.line
     name = twinning.value
     if twinning is Twinning.STIPULATION:
-        return _stipulation(take_stipulation(words), line)
+        text = take_stipulation(words)
+        return Change(f"{name} {text}", line, lambda setting, _: replace(setting, stipulation=text))
     if twinning is Twinning.CONDITION:
-        return _conditions(take_conditions(words), line)
+        given = take_conditions(words)
+        said = " ".join((name, *given))
+        return Change(said, line, lambda setting, _: replace(setting, conditions=given))
     if twinning in (Twinning.MOVE, Twinning.EXCHANGE, Twinning.SHIFT):
         one, other = take_pair(words, name)
         made = {Twinning.MOVE: _move, Twinning.EXCHANGE: _exchange, Twinning.SHIFT: _shift}
@@ -78,20 +81,6 @@ def _value(words: Words, what: str) -> str:
     if word is None:
         raise Unreadable(words.line, f"something is missing after {what}")
     return words.take().key
-
-
-def _stipulation(text: str, line: int) -> Change:
-    return Change(
-        f"Stipulation {text}", line, lambda setting, _: replace(setting, stipulation=text)
-    )
-
-
-def _conditions(conditions: tuple[str, ...], line: int) -> Change:
-    return Change(
-        " ".join(("Condition",) + conditions),
-        line,
-        lambda setting, _: replace(setting, conditions=conditions),
-    )
 
 
 def _replaced(square: Square, said: list[str]) -> None:
@@ -151,7 +140,7 @@ def _add(added: list[PlacedMan], line: int) -> Change:
 
 def _named(one: PlacedMan) -> str:
     if isinstance(one.man, Man):
-        return f"{one.man.colour.value} {one.man.kind.value}{one.square.name}"
+        return one.man.on(one.square)
     return f"{one.man}{one.square.name}"
 
 

@@ -60,9 +60,9 @@ def _problems_in(node: Node) -> list[Node]:
 
 def _read_key(key: str, value: Node, draft: Draft) -> None:
     readers = {
-        "title": _read_title,
-        "author": _read_authors,
-        "authors": _read_authors,
+        "title": _read_names,
+        "author": _read_names,
+        "authors": _read_names,
         "source": _read_later,
         "date": _read_later,
         "algebraic": _read_men,
@@ -116,12 +116,9 @@ def _one_line(node: Node, between: str) -> str:
     return between.join(text.replace("\n", " ") for text in _texts(node))
 
 
-def _read_title(_: str, value: Node, draft: Draft) -> None:
-    draft.texts.append(TextLine(Command.TITLE, _one_line(value, "; ")))
-
-
-def _read_authors(_: str, value: Node, draft: Draft) -> None:
-    draft.texts.append(TextLine(Command.AUTHOR, _one_line(value, "; ")))
+def _read_names(key: str, value: Node, draft: Draft) -> None:
+    command = Command.TITLE if key.lower() == "title" else Command.AUTHOR
+    draft.texts.append(TextLine(command, _one_line(value, "; ")))
 
 
 def _read_origin(keys: dict[str, Node], draft: Draft) -> None:

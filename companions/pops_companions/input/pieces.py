@@ -79,14 +79,6 @@ class Piece(NamedTuple):
         """Returns the words and text lines of the block."""
         return list(tokens_in(text, self.start, self.stop, self.line))
 
-    def tokens_to_end(self, text: bytes) -> list[Token]:
-        """Returns the words and text lines of the block with the word that closes it."""
-        tokens = self.tokens(text)
-        if self.closed:
-            line = self.line + text.count(b"\n", self.start, self.stop)
-            tokens.append(next(tokens_in(text, self.stop, len(text), line)))
-        return tokens
-
 
 def cut(text: bytes) -> list[Piece]:
     """Returns the problems of an input by their numbers. An empty input has one, a faulty one."""

@@ -4,7 +4,8 @@ The report of pops decides what the fault is; this reading finds the faulty word
 """
 
 import re
-from dataclasses import dataclass, field
+from collections.abc import Iterator
+from dataclasses import dataclass, field, replace
 from enum import Enum, IntEnum
 from typing import Optional
 
@@ -12,7 +13,15 @@ from pops_companions.chess.attacks import attackers
 from pops_companions.chess.men import Colour, Kind, Man, Square
 from pops_companions.chess.stipulation import Condition, Play, Stipulation
 from pops_companions.input.pieces import Piece
-from pops_companions.input.words import LONGEST_WORD, TextLine, Token, Word, named
+from pops_companions.input.words import (
+    BLANKS,
+    LONGEST_WORD,
+    TextLine,
+    Token,
+    Word,
+    forms_of,
+    tokens_in,
+)
 
 COLOURS = tuple(colour.name.title() for colour in Colour)
 CONDITIONS = tuple(condition.value for condition in Condition)
@@ -22,6 +31,9 @@ MOST_SOLUTIONS = 4_000_000_000
 CASTLING_SQUARES = ("a1", "e1", "h1", "a8", "e8", "h8")
 
 _SQUARES = re.compile(rb"(?:[a-h][1-8])+", re.IGNORECASE)
+_BLANK = re.compile(rb"[" + BLANKS + rb"]")
+# How many words after a fault its explanation looks at.
+_WORDS_AFTER = 1000
 
 
 class Section(Enum):
@@ -50,6 +62,12 @@ _AWAITED = {
 SECTIONS = tuple(section.value for section in Section)
 COMMANDS = ("BeginProblem", *SECTIONS, *CLOSING)
 OPTIONS = ("SetPlay", "Variation", "NoBoard", *_AWAITED)
+# What a word of each kind means. (A look at each name would take most of the time of reading.)
+_COMMAND_FORMS = forms_of(COMMANDS)
+_CLOSING_FORMS = forms_of(CLOSING)
+_COLOUR_FORMS = forms_of(COLOURS, 1)
+_CONDITION_FORMS = forms_of(CONDITIONS)
+_OPTION_FORMS = forms_of(OPTIONS)
 
 
 class FaultKind(IntEnum):
@@ -138,11 +156,16 @@ class Placed:
 class Reading:
     """A problem as far as it was read: up to its fault, if it has one.
 
-    `at` is the place of the faulty word among the tokens; the end of the text has none.
+    It begins at `start` of the text, on this line, from 1. `at` is the place of the faulty word
+    among the tokens, where it is the last one; the end of the text has none. `awaited_before` and
+    `option_before` are `awaited` and `option` before the last word.
     """
 
-    tokens: list[Token]
+    text: bytes
+    start: int
+    line: int
     first: bool
+    tokens: list[Token] = field(default_factory=list)
     number: Optional[FaultKind] = None
     at: Optional[int] = None
     section: Optional[Section] = None
@@ -162,6 +185,8 @@ class Reading:
     crossed: Optional[Square] = None
     crossed_word: Optional[Word] = None
     openers: list[Word] = field(default_factory=list)
+    awaited_before: Optional[Awaited] = None
+    option_before: Optional[Word] = None
 
     @property
     def word(self) -> Word:
@@ -173,43 +198,139 @@ class Reading:
 
     @property
     def words(self) -> list[Word]:
+        """The words up to the faulty one."""
         return [token for token in self.tokens if isinstance(token, Word)]
 
     @property
     def text_lines(self) -> list[TextLine]:
+        """The text lines before the faulty word."""
         return [token for token in self.tokens if isinstance(token, TextLine)]
 
-    def neighbour(self, step: int) -> Optional[Word]:
-        """Returns the word next to the faulty one, on either side, over text lines."""
-        words = self.words
-        place = words.index(self.word) + step
-        return words[place] if 0 <= place < len(words) else None
+    @property
+    def is_begun(self) -> bool:
+        """Whether its BeginProblem was read, or what stands there."""
+        return not self.first or any(isinstance(token, Word) for token in self.tokens)
+
+    @property
+    def place(self) -> int:
+        """Where in the text its tokens end."""
+        return self.tokens[-1].span.stop if self.tokens else self.start
+
+    def later(self) -> Iterator[Token]:
+        """Yields the words and text lines after its last one, with the word that closes the problem."""
+        for token in () if self.is_closed else self._following():
+            yield token
+            if _is_closing(token):
+                return
+
+    @property
+    def is_closed(self) -> bool:
+        """Whether its last word closes it."""
+        return len(self.tokens) > 0 and _is_closing(self.tokens[-1])
+
+    def _following(self) -> Iterator[Token]:
+        line = _line_of(self.tokens[-1]) if self.tokens else self.line
+        return tokens_in(self.text, self.place, len(self.text), line)
+
+    def words_after(self) -> Iterator[Word]:
+        """Yields the words after the faulty one, in a long problem not all."""
+        left = _WORDS_AFTER
+        for token in self.later():
+            if isinstance(token, Word):
+                yield token
+                left -= 1
+            if left == 0:
+                return
+
+    @property
+    def word_before(self) -> Optional[Word]:
+        """The word before the faulty one, over text lines."""
+        place = len(self.tokens) - 2
+        while place >= 0:
+            token = self.tokens[place]
+            if isinstance(token, Word):
+                return token
+            place -= 1
+        return None
+
+    def before_fault(self) -> "Reading":
+        """Returns what was read before the faulty word; all of it at the end of the text."""
+        word = None if self.at is None else self.word
+        is_bad_stipulation = self.number is FaultKind.BAD_STIPULATION
+        return replace(
+            self,
+            tokens=self.tokens[: self.at],
+            number=None,
+            at=None,
+            awaited=self.awaited if word is None else self.awaited_before,
+            option=self.option if word is None else self.option_before,
+            awaited_before=None,
+            option_before=None,
+            colours=list(self.colours),
+            men={square: it for square, it in self.men.items() if it.word is not word},
+            square=None,
+            square_place=0,
+            stipulation_word=None if is_bad_stipulation else self.stipulation_word,
+            openers=list(self.openers),
+        )
+
+    def stays(self, text: bytes, place: int) -> bool:
+        """Returns whether all that was read stays as it is in another text, which differs from this place on.
+        """
+        end = self.place
+        if place != end or end == 0:
+            return place >= end
+        after = text[end : end + 1]
+        is_text_line = len(self.tokens) > 0 and isinstance(self.tokens[-1], TextLine)
+        return after in (b"", b"\n") or not is_text_line and _BLANK.match(after) is not None
+
+
+def _is_closing(token: Token) -> bool:
+    return isinstance(token, Word) and token.bytes.lower() in _CLOSING_FORMS
+
+
+def _line_of(token: Token) -> int:
+    return token.line if isinstance(token, Word) else token.word.line
 
 
 def read_piece(text: bytes, piece: Piece) -> Reading:
     """Reads a problem of an input up to its fault."""
-    is_first, closed = piece.number == 1, piece.closed
-    reading = Reading(piece.tokens_to_end(text), is_first)
-    begun = not is_first
-    for place, token in enumerate(reading.tokens):
+    return read_on(text, Reading(text, piece.start, piece.line, piece.number == 1))
+
+
+def read_on(text: bytes, before: Reading) -> Reading:
+    """Goes on with what was read of a problem without a fault, up to its fault. The text may differ after
+    it.
+    """
+    reading = replace(before.before_fault(), text=text)
+    begun = reading.is_begun
+    if reading.is_closed:
+        return reading
+    for token in reading._following():
+        reading.tokens.append(token)
         if isinstance(token, TextLine):
             continue
-        if len(token.bytes) > LONGEST_WORD:
-            fault: Optional[FaultKind] = FaultKind.WORD_TOO_LONG
-        elif begun:
-            fault = step(reading, token)
-        else:
-            is_begin = named(token.bytes, ["BeginProblem"]) is not None
-            fault = None if is_begin else FaultKind.BEGIN_PROBLEM_MISSING
-            begun = True
-        if fault is None and place == len(reading.tokens) - 1 and closed:
-            fault = _end_fault(reading)
+        reading.awaited_before, reading.option_before = reading.awaited, reading.option
+        fault = _fault_of(reading, token, begun)
+        begun = True
         if fault is not None:
-            reading.number, reading.at = fault, place
+            reading.number, reading.at = fault, len(reading.tokens) - 1
+        if fault is not None or _is_closing(token):
             return reading
-    if not closed:
-        reading.number = FaultKind.END_PROBLEM_MISSING if begun else FaultKind.BEGIN_PROBLEM_MISSING
+    reading.number = FaultKind.END_PROBLEM_MISSING if begun else FaultKind.BEGIN_PROBLEM_MISSING
     return reading
+
+
+def _fault_of(reading: Reading, word: Word, begun: bool) -> Optional[FaultKind]:
+    """Takes the next word of a problem, also its first or its last one; returns its fault."""
+    if len(word.bytes) > LONGEST_WORD:
+        return FaultKind.WORD_TOO_LONG
+    if begun:
+        fault = step(reading, word)
+    else:
+        is_begin = _COMMAND_FORMS.get(word.bytes.lower()) == "BeginProblem"
+        fault = None if is_begin else FaultKind.BEGIN_PROBLEM_MISSING
+    return _end_fault(reading) if fault is None and _is_closing(word) else fault
 
 
 def step(reading: Reading, word: Word) -> Optional[FaultKind]:
@@ -221,7 +342,7 @@ def step(reading: Reading, word: Word) -> Optional[FaultKind]:
         if squares:
             return _barred(reading, word, squares)
         reading.awaited = reading.option = None
-    command = named(word.bytes, COMMANDS)
+    command = _COMMAND_FORMS.get(word.bytes.lower())
     if command == "BeginProblem":
         return FaultKind.WORD_MISPLACED
     if command in SECTIONS:
@@ -264,7 +385,7 @@ def _barred(reading: Reading, word: Word, squares: list[Square]) -> Optional[Fau
 
 
 def _piece(reading: Reading, word: Word) -> Optional[FaultKind]:
-    colour = named(word.bytes, COLOURS, 1)
+    colour = _COLOUR_FORMS.get(word.bytes.lower())
     if colour is not None:
         reading.colour = Colour[colour.upper()]
         reading.colours.append((reading.colour, word))
@@ -313,7 +434,7 @@ def _stipulation(reading: Reading, word: Word) -> Optional[FaultKind]:
 
 
 def _condition(reading: Reading, word: Word) -> Optional[FaultKind]:
-    name = named(word.bytes, CONDITIONS)
+    name = _CONDITION_FORMS.get(word.bytes.lower())
     if name is None:
         return FaultKind.WORD_MISPLACED
     if reading.condition is not None:
@@ -323,7 +444,7 @@ def _condition(reading: Reading, word: Word) -> Optional[FaultKind]:
 
 
 def _option(reading: Reading, word: Word) -> Optional[FaultKind]:
-    name = named(word.bytes, OPTIONS)
+    name = _OPTION_FORMS.get(word.bytes.lower())
     if name is None:
         return FaultKind.WORD_MISPLACED
     reading.awaited = _AWAITED.get(name)

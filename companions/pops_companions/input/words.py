@@ -80,6 +80,20 @@ def named(word: bytes, names: Sequence[str], least: int = _LEAST_LETTERS) -> Opt
     return next((it for it in names if it.lower().encode("ascii").startswith(small)), None)
 
 
+def forms_of(names: Sequence[str], least: int = _LEAST_LETTERS) -> dict[bytes, str]:
+    """Returns what each name and each short form means, in small letters: the first name that it fits.
+    """
+    forms: dict[bytes, str] = {}
+    for name in names:
+        small = name.lower().encode("ascii")
+        for length in range(least, len(small) + 1):
+            forms.setdefault(small[:length], name)
+    return forms
+
+
+_TEXT_FORMS = forms_of(TEXT_WORDS)
+
+
 def is_short_for(word: bytes, name: str) -> bool:
     """Returns whether a word is this name or a short form of it."""
     return named(word, (name,)) is not None
@@ -101,7 +115,7 @@ def tokens_in(text: bytes, start: int, stop: int, line: int) -> Iterator[Token]:
         line += text.count(b"\n", place, found.start())
         word = Word(found[0], found.start(), line)
         place = found.end()
-        name = named(word.bytes, TEXT_WORDS)
+        name = _TEXT_FORMS.get(word.bytes.lower())
         if name is None:
             yield word
             continue

@@ -143,13 +143,6 @@ def problem_of_position(
     )
 
 
-def problem_lines(
-    position: Position, source: str, stipulation: Stipulation, wishes: Wishes
-) -> list[str]:
-    """Returns the lines of the problem that is made of a position."""
-    return problem_of_position(position, source, stipulation, wishes).lines
-
-
 def _turn(colour: Colour) -> str:
     return f"{colour.name.title()} is to move in the FEN"
 

@@ -7,8 +7,8 @@ no harm. A program that is fed by a pipe has no window between its start and the
 owner: without its input it ends by itself.
 
 A program may start others in groups or sessions of their own, unless it surely starts none: a `Watcher`
-ends these. What has left the session and its environment isn't ended, and isn't waited for once the
-program is killed.
+ends these. What has left the session and its environment and has closed the pipe isn't ended, and isn't
+waited for once the program is killed.
 """
 
 import errno
@@ -131,6 +131,7 @@ class ChildProcess:
         # Whether it may have started others in groups of their own, and the mark of those in sessions.
         self._has_others = not starts_none(words[0])
         self._mark = sessions.new_mark() if self._has_others else ""
+        self._pipe = sessions.name_of_pipe(self._watched)
         if self._mark:
             environment = {**(environment or os.environ), self._mark: "1"}
         self.is_killed = self._is_released = False
@@ -147,7 +148,7 @@ class ChildProcess:
             )
             killed_with_holder(self._watched, -self.run.pid)
             if self._has_others:
-                self._watcher = sessions.Watcher(self.run.pid, mark=self._mark)
+                self._watcher = sessions.Watcher(self.run.pid, "", self._mark, self._pipe)
         except BaseException:
             self._close()
             raise
@@ -257,6 +258,10 @@ class ChildProcess:
         """A handle that can be read once the program is killed, for those who wait for its output."""
         return self._watched
 
+    def processes(self) -> list[int]:
+        """Returns the processes of its session, and those that left it with its mark or its pipe."""
+        return sessions.of_run(self.run.pid, self._mark, self._pipe)
+
     def send(self, sign: int) -> None:
         """Sends a signal to the program's process group, unless the program has ended."""
         if self.run.returncode is None:
@@ -284,7 +289,7 @@ class ChildProcess:
             # (until it is waited for, no other process gets its number)
             with suppress(ChildProcessError):
                 os.waitid(os.P_PID, self.run.pid, os.WEXITED | os.WNOWAIT)
-            sessions.end(self.run.pid, self._mark)
+            sessions.end(self.run.pid, self._mark, self._pipe)
         self.run.wait()
 
     def wait(self) -> None:

@@ -4,12 +4,12 @@ import os
 from collections.abc import Callable, Iterator, Sequence
 from typing import BinaryIO, NamedTuple, Optional
 
+from pops_companions import files
 from pops_companions.many.journal import Journal, Kept
 from pops_companions.many.targets import Target
 from pops_companions.many.tasks import Task, Tasks
 from pops_companions.many.unfinished import UnfinishedTarget
 from pops_companions.report import lines
-from pops_companions.tables import row_of
 
 _COLUMNS = ("start", "bytes", "status", "problem", "line", "file")
 
@@ -51,6 +51,8 @@ class Joined:
         self._streamed = 0
         # Returns what is known of an unfinished problem in parts, and how far it is.
         self.in_parts: Callable[[int], Optional[tuple[bytes, str]]] = lambda place: None
+        # Raises what keeps a report from being written to its file.
+        self.refuse: Callable[[], None] = lambda: None
 
     def begin(self) -> None:
         """Writes what is due before the first run."""
@@ -64,10 +66,14 @@ class Joined:
         self._unsettled[id(report)] -= tasks
         if report.file is None:
             self._stream(report)
-        if self._unsettled[id(report)] == 0:
+        # (a report that lacks a task is never complete, so that the journal stays)
+        if self._unsettled[id(report)] == 0 and self._is_settled(report):
             if report.file is not None:
                 self._write(report, report.file)
             self._to_write.remove(id(report))
+
+    def _is_settled(self, report: Report) -> bool:
+        return all(map(self._journal.is_settled, report.tasks.places))
 
     def _stream(self, report: Report) -> None:
         before = self._streamed
@@ -87,6 +93,7 @@ class Joined:
         return self._journal.kept[place].tasks
 
     def _write(self, report: Report, target: Target) -> None:
+        self.refuse()
         done = 0
         with target.opened() as file:
             while done < len(report.tasks):
@@ -113,6 +120,8 @@ class Joined:
             if report.unfinished.is_foreign:
                 raise FileExistsError(None, report.unfinished.refusal)
             with report.unfinished.opened() as file:
+                if report.file is not None:
+                    files.restrict(file.fileno(), report.file.path)
                 for task in tasks:
                     file.writelines(self._marked(task))
             written.append(report.unfinished.path)
@@ -138,6 +147,9 @@ class Joined:
 
 def write_index(target: Target, tasks: Tasks, journal: Journal) -> None:
     """Writes a table of the items of a report on all tasks: their places and their sources."""
+    # (loaded only by runs that need it)
+    from pops_companions.tables import row_of
+
     start = place = 0
     with target.opened() as file:
         file.write(row_of(_COLUMNS).encode("ascii"))
@@ -166,4 +178,4 @@ def _items_of(journal: Journal, place: int, kept: Kept) -> list[tuple[int, int]]
 
 def _status_of(item: bytes) -> int:
     """Returns the exit status of a task of a record, which has the greatest of all its tasks."""
-    return int(lines.FAULT.match(item, item.index(b"\n") + 1) is not None)
+    return int(lines.FAULT.match(item.partition(b"\n")[2]) is not None)

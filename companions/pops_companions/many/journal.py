@@ -4,7 +4,8 @@ Its first line is a fingerprint of the run's inputs and options, and one of pops
 a line with its task, status, length, and a checksum of all of it, so that a cut or changed record is
 noticed; an unfinished report's line also has the seconds that its run took. The reports of tasks in
 turn may be one record. Parts of a problem are kept in the same way, each with its phase, its number
-and the number of moves by which the problem was cut.
+and the number of moves by which the problem was cut. A record without a report notes another program
+of the run, as pops-part or the pops of a machine: checksums of its name and of what it is.
 """
 
 import fcntl
@@ -25,11 +26,14 @@ if TYPE_CHECKING:
     from pops_companions.many.parts import Key, Part
 
 _ANY_HEAD = b"pops-many journal "
-_HEAD = _ANY_HEAD + b"3 "
+_HEAD = _ANY_HEAD + b"4 "
 _RECORD = re.compile(rb"task (\d+) status (\d+)(?: seconds (\d+\.\d+))? bytes (\d+)")
 _RECORD_OF_SOME = re.compile(rb"tasks (\d+) number (\d+) status (\d+) bytes (\d+)")
 _PART = re.compile(rb"part (\d+) (set|play) (\d+) depth (\d+) bytes (\d+)")
+_PROGRAM = re.compile(rb"program ([0-9a-f]{64}) ([0-9a-f]{64}) bytes (0)")
 _SUM = b" sum "
+# In place of a program's name: notes that one was changed during the run.
+_CHANGED = "a changed program"
 _LONGEST_HEAD = 200
 _PIECE = 1 << 20
 # (its name is made of the report's: a link by that name isn't followed)
@@ -68,6 +72,10 @@ def fingerprint(sources: Sequence[Source], options: Sequence[str]) -> bytes:
     return total.hexdigest().encode("ascii")
 
 
+def _digest(text: str) -> bytes:
+    return hashlib.sha256(text.encode("utf-8", "surrogateescape")).hexdigest().encode("ascii")
+
+
 def is_begun(path: str) -> bool:
     """Returns whether a journal is there and its first line is whole: otherwise it keeps nothing."""
     try:
@@ -84,6 +92,12 @@ def _with_sum(head: bytes, report: Iterable[_Report]) -> bytes:
     for piece in report:
         total = zlib.crc32(piece, total)
     return b"%s%s%d\n" % (head, _SUM, total)
+
+
+def _has_items(report: bytes, number: int) -> bool:
+    """Returns whether a report has this number of items and nothing else."""
+    *items, rest = report.split(lines.ITEM_END)
+    return (len(items), rest) == (number, b"") and all(map(lines.PROBLEM.match, items))
 
 
 def _report_of(result: Result) -> list[_Report]:
@@ -109,11 +123,14 @@ class Journal:
         self.kept: dict[int, Kept] = {}
         self._finished: set[int] = set()
         self.parts: dict[Key, Kept] = {}
+        # What other programs are, by their names, both as checksums.
+        self._programs: dict[bytes, bytes] = {}
         self._tasks = tasks
         self._seconds = seconds
         self._origin = origin
         self._head = b"%s%s %s\n" % (_HEAD, *origin)
-        opened = os.open(path, _OPEN | (0 if resume else os.O_CREAT), 0o666)
+        # (it has the reports, whoever may read the file that they are for)
+        opened = os.open(path, _OPEN | (0 if resume else os.O_CREAT), 0o600)
         if not stat.S_ISREG(os.fstat(opened).st_mode):
             os.close(opened)
             raise JournalError(f"{path} is a device or a pipe: a journal is a file")
@@ -167,14 +184,18 @@ class Journal:
             end = self._file.tell()
         self._file.seek(end)
         self._file.truncate()
+        if _digest(_CHANGED) in self._programs:
+            raise JournalError(
+                f"{self.path} is of a run during which a program was changed: remove it"
+            )
 
     def _read_record(self) -> bool:
         """Reads a record; False at the end of those that are whole."""
         line = self._file.readline(_LONGEST_HEAD)
         head = line.rpartition(_SUM)[0]
         of_task, of_some = _RECORD.fullmatch(head), _RECORD_OF_SOME.fullmatch(head)
-        of_part = _PART.fullmatch(head)
-        found = of_task or of_some or of_part
+        of_part, of_program = _PART.fullmatch(head), _PROGRAM.fullmatch(head)
+        found = of_task or of_some or of_part or of_program
         if found is None:
             return False
         start, length = self._file.tell(), int(found.groups()[-1])
@@ -188,7 +209,7 @@ class Journal:
             return self._note(int(of_task[1]), Kept(int(of_task[2]), seconds, start, length))
         if of_some:
             place, tasks, status = (int(part) for part in of_some.group(1, 2, 3))
-            if tasks > b"".join(self._pieces(start, length)).count(lines.ITEM_END):
+            if not _has_items(b"".join(self._pieces(start, length)), tasks):
                 return False
             return self._note(place, Kept(status, None, start, length, tasks))
         if of_part:
@@ -197,6 +218,8 @@ class Journal:
             place, number, depth = (int(part) for part in of_part.group(1, 3, 4))
             key = Key(place, of_part[2].decode("ascii"), number, depth)
             self.parts[key] = Kept(0, None, start, length)
+        if of_program:
+            self._programs[of_program[1]] = of_program[2]
         return True
 
     def _note(self, place: int, kept: Kept) -> bool:
@@ -235,6 +258,18 @@ class Journal:
         place, phase, number, depth = part.key
         head = b"part %d %s %d depth %d" % (place, phase.encode("ascii"), number, depth)
         self.parts[part.key] = Kept(0, None, *self._add(head, [report]))
+
+    def is_from(self, name: str, program: str) -> bool:
+        """Returns whether a program is the one that the run had by this name, and notes a new one."""
+        key, found = _digest(name), _digest(program)
+        if key not in self._programs:
+            self._add(b"program %s %s" % (key, found), [])
+            self._programs[key] = found
+        return self._programs[key] == found
+
+    def spoil(self) -> None:
+        """Notes that reports may be of two programs: no run goes on with them."""
+        self.is_from(_CHANGED, "")
 
     def _add(self, head: bytes, report: list[_Report]) -> tuple[int, int]:
         """Writes a record; returns where its report is, and its length."""

@@ -1,7 +1,7 @@
 """Runs tasks on other machines, through GNU parallel and ssh.
 
-A machine needs pops, sh, base64, timeout, and perl (which GNU parallel wants there); nothing is stored
-on it.
+A machine needs pops, sh, base64, timeout, and perl (which GNU parallel wants there), and sha256sum to
+say which pops it has; nothing is stored on it.
 Problems go out as words of a command line, small neighbours in bundles, a few at a login where there
 are many, and each report comes back as a line, both in base64. A machine that fails is reported and left
 out; what it had at hand goes to the others.
@@ -9,14 +9,18 @@ out; what it had at hand goes to the others.
 
 import base64
 import binascii
+import math
 import re
+import shlex
 import threading
+import time
 from collections.abc import Callable, Sequence
 from typing import Optional
 
+from pops_companions import places
 from pops_companions.input.words import short_forms
 from pops_companions.many.bundles import items_in, neighbours, text_of
-from pops_companions.many.parallel import Ended, Parallel, machine_of
+from pops_companions.many.parallel import Ended, Jobs, Parallel, machine_of
 from pops_companions.many.program import FAULTY, SOUND, Program, RunError
 from pops_companions.many.tasks import UNFINISHED, Result, Task, is_whole
 
@@ -28,7 +32,7 @@ FAILURES = 2
 ROUNDS_WITHOUT_REPORT = 3
 PROBE = b"BeginProblem Pieces White Kg6 Ra1 Black Kg8 Stipulation #1 EndProblem"
 # Only where a machine hangs: the probe takes a moment, but a busy machine may need many times that.
-_SECONDS_OF_A_PROBE = 600
+SECONDS_OF_A_PROBE = 300.0
 # The most bytes that a machine may write of the probe, whose report has some hundred.
 MOST_OF_A_PROBE = 1 << 20
 # The program is $0; the one word after it holds number, seconds and text of each input in turn.
@@ -39,6 +43,16 @@ _SCRIPT = (
     '*) timeout --foreground "$2" "$0" {options} ;; esac; printf "\\n%d" "$?"; }} | base64 -w 0; '
     "echo; shift 3; done"
 )
+# Writes the checksums of programs, as an input of another number: `$0` and others.
+_CHECKSUMS = (
+    '; printf "1 "; {{ for it in "$0" {others}; do '
+    'printf "%s\\n" "$(sha256sum < "$(command -v "$it")" | cut -c 1-64)"; done; printf 0; }} 2> /dev/null'
+    " | base64 -w 0; echo"
+)
+_CHECKSUM = re.compile(r"[0-9a-f]{64}")
+# The programs on a machine, in the order of their checksums.
+_PROGRAMS = ("pops", "pops-part")
+NO_REPORT_IN_TIME = "no report came back in {:g} s"
 _WITHOUT_LIMIT = "-"
 _STATUS_OUT_OF_TIME = 124
 # The most problems of a login, and the fewest logins of each place.
@@ -52,6 +66,8 @@ _SMALL_AT_A_LOGIN = 200
 _LOGINS_FOR_SMALL = 2
 # What a bundle hasn't solved after these seconds is solved elsewhere.
 _SECONDS_OF_A_BUNDLE = 5.0
+# What a login takes beyond the seconds of its problems, on a busy machine too.
+_SECONDS_OF_A_LOGIN = 300
 _STIPULATION = re.compile(
     rb"(?<!\S)(?:" + short_forms("Stipulation") + rb")\s+"
     rb"(?P<play>[sh]?)[#=](?P<moves>[0-9]{1,3})(?P<half>\.5)?(?!\S)",
@@ -105,6 +121,14 @@ def logins_of(
 def _word(number: int, text: bytes, seconds: Optional[float]) -> str:
     """Returns an input with its number and the seconds that it has, as a script takes it."""
     return f"{number} {_WITHOUT_LIMIT if seconds is None else seconds} {coded(text)}"
+
+
+def seconds_of(logins: Sequence[Sequence[str]]) -> Optional[int]:
+    """Returns the most seconds that a login may take; None where a problem has no limit."""
+    limits = [[word.split(" ")[1] for word in words] for words in logins]
+    if any(_WITHOUT_LIMIT in words for words in limits):
+        return None
+    return _SECONDS_OF_A_LOGIN + math.ceil(max((sum(map(float, it)) for it in limits), default=0.0))
 
 
 def _decoded(line: bytes) -> Optional[tuple[int, int, bytes]]:
@@ -165,6 +189,7 @@ class _Round:
         most = _SMALL_AT_A_LOGIN // max(map(len, bundles), default=1)
         logins += logins_of(words, places, _LOGINS_FOR_SMALL, most)
         self.lines = list(map(" ".join, logins))
+        self.seconds = seconds_of(logins)
 
     def _word(self, *bundle: Task) -> str:
         seconds = self._program.seconds
@@ -207,6 +232,43 @@ class _Round:
         self.done.update(range(place, place + result.tasks))
 
 
+class _Probe:
+    """What comes back of a machine's probe."""
+
+    def __init__(self) -> None:
+        self._until = time.monotonic() + SECONDS_OF_A_PROBE
+        self._come = 0
+        self._report: Optional[bytes] = None
+        # The checksums of its programs; empty where one isn't known.
+        self.checksums: list[str] = []
+
+    def take(self, line: bytes) -> None:
+        """Takes a line that came back."""
+        self._come += len(line)
+        answer = _decoded(line)
+        if answer is None:
+            return
+        number, status, text = answer
+        if number == 0 and status in (SOUND, FAULTY):
+            self._report = text
+        elif number == 1:
+            sums = text.decode("ascii", "replace").split("\n")
+            self.checksums = [it if _CHECKSUM.fullmatch(it) else "" for it in sums]
+
+    def look(self, _: Sequence[Ended]) -> bool:
+        """Returns whether the probe goes on."""
+        return self._come <= MOST_OF_A_PROBE and not self.is_late
+
+    @property
+    def is_late(self) -> bool:
+        return time.monotonic() > self._until
+
+    @property
+    def report(self) -> Optional[bytes]:
+        """What the machine reports of the problem; None where no report came back, or much more."""
+        return self._report if self._come <= MOST_OF_A_PROBE else None
+
+
 class Machines:
     """Machines whose pops gives the reports of pops here."""
 
@@ -214,12 +276,13 @@ class Machines:
         self,
         logins: Sequence[str],
         parallel: Parallel,
-        pops: str,
+        names: Sequence[str],
         options: Sequence[str],
         program: Program,
         say: Callable[[str], None],
     ):
-        """Asks each machine for the report of one problem, and leaves out those that fail.
+        """Asks each machine for the report of one problem, and leaves out those that fail. `names` are
+        the programs there: pops, and pops-part where it is needed.
 
         MachinesError where no machine is left.
         """
@@ -227,45 +290,76 @@ class Machines:
         self._program = program
         self._parallel = parallel
         self._lock = threading.Lock()
+        # The checksums of these programs, by the machines.
+        self._checksums: dict[str, list[str]] = {}
 
         script = _SCRIPT.format(options=" ".join(options), without=_WITHOUT_LIMIT)
-        self._script = [script, pops]
+        self._script = [script, names[0]]
+        self._number = len(names)
+        others = " ".join(map(shlex.quote, names[1:]))
+        self._probing = [script + _CHECKSUMS.format(others=others), names[0]]
         named = [name for login in logins for name in login.split(",") if name]
         self.alive = [login for login in dict.fromkeys(named) if self._is_sound(login)]
         self.expect_some()
+        self.compare(0, program.path)
 
     def _is_sound(self, login: str) -> bool:
         wanted = self._program.report(PROBE)
         for _ in range(FAILURES):
-            report = self._probed(login)
+            probe = self._probed(login)
             reason = self._parallel.last_error
-            if report == wanted:
+            if probe.report == wanted:
+                self._checksums[machine_of(login)] = probe.checksums
                 return True
-            if report is not None:
+            if probe.report is not None:
                 reason = "its pops gives another report"
+                break
+            if probe.is_late:
+                reason = NO_REPORT_IN_TIME.format(SECONDS_OF_A_PROBE)
                 break
         self._say(f"machine {login} left out: {reason}")
         return False
 
-    def _probed(self, login: str) -> Optional[bytes]:
-        """Returns what a machine reports of the probe; None where no report came back, or much more."""
-        answers: list[bytes] = []
-        come = 0
-
-        def take(line: bytes) -> None:
-            nonlocal come
-            come += len(line)
-            answer = _decoded(line)
-            if answer is not None and answer[0] == 0 and answer[1] in (SOUND, FAULTY):
-                answers[:] = [answer[2]]
-
-        def look(_: Sequence[Ended]) -> bool:
-            return come <= MOST_OF_A_PROBE
-
-        seconds = self._program.seconds and max(self._program.seconds, _SECONDS_OF_A_PROBE)
+    def _probed(self, login: str) -> _Probe:
+        """Returns what a machine gives of the probe."""
+        probe = _Probe()
+        seconds = self._program.seconds and max(self._program.seconds, SECONDS_OF_A_PROBE)
         words = [_word(0, PROBE, seconds)]
-        self._parallel.run([login], self._script, words, take, look, shared=True)
-        return answers[0] if answers and come <= MOST_OF_A_PROBE else None
+        jobs = Jobs(self._probing, words)
+        self._parallel.run([login], jobs, probe.take, probe.look, shared=True)
+        return probe
+
+    def _checksum(self, login: str, place: int) -> str:
+        """Returns the checksum of a machine's program; nothing where it isn't known."""
+        return "".join(self._checksums[machine_of(login)][place : place + 1])
+
+    def compare(self, place: int, program: str) -> None:
+        """Says which machines have another program in a place than the one here, or one that isn't known,
+        as without sha256sum.
+        """
+        name, here = _PROGRAMS[place], places.fingerprint(program)
+        sums = {login: self._checksum(login, place) for login in self.alive}
+        unknown = [login for login in sums if not sums[login]]
+        others = [login for login in sums if sums[login] not in ("", here)]
+        if unknown:
+            self._say(f"{name} on {', '.join(unknown)} can't be compared with {name} here")
+        if others:
+            self._say(f"{name} on {', '.join(others)} is another program than {name} here")
+
+    def keep_to(self, is_from: Callable[[str, str], bool]) -> None:
+        """Leaves out the machines with another program than a run had there before, by the program's
+        name. A program that isn't known is taken for the same.
+
+        MachinesError where no machine is left.
+        """
+        for login in list(self.alive):
+            for place, name in enumerate(_PROGRAMS[: self._number]):
+                checksum = self._checksum(login, place)
+                if checksum and not is_from(f"{name} on {machine_of(login)}", checksum):
+                    self.alive.remove(login)
+                    self._say(f"machine {login} left out: {name} isn't the one that the run had there")
+                    break
+        self.expect_some()
 
     def expect_some(self) -> None:
         """Raises MachinesError where no machine is left."""
@@ -300,22 +394,27 @@ class Machines:
         watch = Watch(self)
 
         def look(jobs: Sequence[Ended]) -> bool:
-            for _, machine, well in jobs:
-                watch.note(machine, well)
+            for job in jobs:
+                if now.seconds is not None and not job.well and job.seconds >= now.seconds:
+                    self.leave_out(job.machine, NO_REPORT_IN_TIME.format(now.seconds))
+                else:
+                    watch.note(job.machine, job.well)
             return bool(self.alive)
 
-        self._parallel.run(self.alive, self._script, now.lines, now.take, look, shared=True)
+        jobs = Jobs(self._script, now.lines, now.seconds)
+        self._parallel.run(self.alive, jobs, now.take, look, shared=True)
 
     def close(self) -> None:
         """Ends all connections."""
         self._parallel.close()
 
-    def leave_out(self, machine: str) -> None:
-        """Hands out nothing more to a machine that failed."""
+    def leave_out(self, machine: str, reason: str = "") -> None:
+        """Hands out nothing more to a machine that failed, by default for the last error."""
         with self._lock:
             for login in [login for login in self.alive if machine_of(login) == machine]:
                 self.alive.remove(login)
-                self._say(f"machine {login} failed and is left out: {self._parallel.last_error}")
+                why = reason or self._parallel.last_error
+                self._say(f"machine {login} failed and is left out: {why}")
 
 
 class Watch:

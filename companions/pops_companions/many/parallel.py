@@ -5,6 +5,7 @@ each job knows its number from GNU parallel, and a file of this number stops it.
 """
 
 import os
+import re
 import select
 import shlex
 import shutil
@@ -36,6 +37,7 @@ _SSH = "ssh -o BatchMode=yes -o ConnectTimeout=10 -o ServerAliveInterval=5 -o Se
 # Ends a job that isn't to begin, before its login and, on this machine, before its script.
 UNLESS_OVER = '[ ! -e "$PARALLEL_HOME/over-$PARALLEL_SEQ" ] || exit 0; '
 _NUMBER = "PARALLEL_SEQ"
+_OF_A_JOB = re.compile(rb"%s=" % _NUMBER.encode("ascii"))
 # In place of ssh. Where GNU parallel asks a machine how many jobs it takes, five bytes are read, and
 # more than 256 are as many as 256: it tries that many logins at once. Other logins have a limit, and
 # what ssh says is a file of at most 2048 blocks: one more byte ends ssh. A line that is cut has an end.
@@ -62,12 +64,25 @@ class ParallelError(Exception):
     """GNU parallel can't be used, with the reason."""
 
 
+class Jobs(NamedTuple):
+    """A script with its own words and a line's words, once for each line. A job that takes more
+    `seconds` is ended.
+    """
+
+    script: Sequence[str]
+    lines: Iterable[str]
+    seconds: Optional[int] = None
+
+
 class Ended(NamedTuple):
-    """A job that ended: its number, from 1, its machine, and whether it did well."""
+    """A job that ended: its number, from 1, its machine, whether it did well, and the seconds that it
+    took.
+    """
 
     job: int
     machine: str
     well: bool
+    seconds: float = 0.0
 
 
 def machine_of(login: str) -> str:
@@ -97,15 +112,17 @@ class _Log:
         for line in whole.decode("utf-8", "replace").splitlines():
             fields = line.split("\t")
             if len(fields) > 7 and fields[0].isdigit():
-                ended.append(Ended(int(fields[0]), fields[1], fields[6:8] == ["0", "0"]))
+                well = fields[6:8] == ["0", "0"]
+                ended.append(Ended(int(fields[0]), fields[1], well, float(fields[3])))
         return ended
 
 
 class Parallel:
     """GNU parallel, with `jobs` jobs at a time on each machine."""
 
-    def __init__(self, jobs: Optional[int], ssh: Optional[str]):
+    def __init__(self, jobs: Optional[int], ssh: Optional[str], say: Callable[[str], None]):
         """Finds GNU parallel. ParallelError where it isn't installed: another program has its name."""
+        self._say = say
         parallel = shutil.which("parallel")
         if parallel is None or not _is_gnu(parallel):
             raise ParallelError("--sshlogin needs GNU parallel: install Debian's package parallel")
@@ -116,19 +133,18 @@ class Parallel:
         self._connections = Connections(self._ssh)
         # About the run at hand.
         self._room: Optional[Path] = None
-        self._session = 0
+        self._child: Optional[ChildProcess] = None
         self._said = b""
 
     def run(
         self,
         logins: list[str],
-        script: Sequence[str],
-        lines: Iterable[str],
+        jobs: Jobs,
         take: Callable[[bytes], None],
         look: Callable[[list[Ended]], bool] = lambda ended: True,
         shared: bool = False,
     ) -> None:
-        """Runs a script with its own words and a line's words, once for each line.
+        """Runs jobs.
 
         `take` gets each line that comes back, at once. `look` gets the jobs that ended now and
         then; it may take logins out of their list, and ends the run where it returns False.
@@ -136,11 +152,12 @@ class Parallel:
         """
         with sessions.passing_folder("pops-many-") as name:
             room = Path(name)
-            (room / "tasks").write_text("".join(line + "\n" for line in lines), "ascii")
+            (room / "tasks").write_text("".join(line + "\n" for line in jobs.lines), "ascii")
             _write_logins(room, logins)
-            child = self._started(room, script, self._connections.options if shared else "")
-            with sessions.watched(self._session, name):
-                looks = threading.Thread(target=_look, args=(child, room, logins, look))
+            child = self._started(room, jobs, self._connections.options if shared else "")
+            is_stopped = threading.Event()
+            with sessions.watched(child.run.pid, name):
+                looks = threading.Thread(target=_look, args=(child, room, logins, look, is_stopped))
                 errors = threading.Thread(target=self._hear, args=(child,))
                 looks.start()
                 errors.start()
@@ -152,32 +169,37 @@ class Parallel:
                     assert child.run.stdout is not None
                     child.run.stdout.close()
                     child.release()
-                    self._room = None
+                    self._room = self._child = None
+            if child.run.returncode < 0 and not is_stopped.is_set():
+                self._say(f"GNU parallel was ended by signal {-child.run.returncode}")
 
-    def _started(self, room: Path, script: Sequence[str], options: str) -> ChildProcess:
+    def _started(self, room: Path, jobs: Jobs, options: str) -> ChildProcess:
         """Starts GNU parallel, with more options of ssh."""
         # (it hands each piece on at once)
         limit = f"dd bs=65536 iflag=count_bytes count={_MOST_OF_A_LOGIN} status=none"
         command = _LOGIN.format(unless=UNLESS_OVER, limit=limit, ssh=self._ssh + options)
         (room / "ssh").write_bytes(os.fsencode(command))
-        words = self._command(room, script)
+        words = self._command(room, jobs)
         child = ChildProcess(words, subprocess.DEVNULL, subprocess.PIPE, _environment(room))
-        self._room, self._session, self._said = room, child.run.pid, b""
+        self._room, self._child, self._said = room, child, b""
         return child
 
     def close(self) -> None:
         """Ends the connections that logins share."""
         self._connections.close()
 
-    def _command(self, room: Path, script: Sequence[str]) -> list[str]:
-        return self._words + [
+    def _command(self, room: Path, jobs: Jobs) -> list[str]:
+        limit = [] if jobs.seconds is None else ["--timeout", str(jobs.seconds)]
+        return [
+            *self._words,
+            *limit,
             "--sshloginfile",
             str(room / "machines"),
             "--joblog",
             str(room / "log"),
             "-a",
             str(room / "tasks"),
-            " ".join(map(shlex.quote, ["sh", "-c", *script])) + " {}",
+            " ".join(map(shlex.quote, ["sh", "-c", *jobs.script])) + " {}",
         ]
 
     def stop(self, jobs: Sequence[int]) -> None:
@@ -193,19 +215,17 @@ class Parallel:
             time.sleep(_SECONDS_BETWEEN_KILLS)
 
     def _kill(self, marks: set[bytes]) -> bool:
-        """Kills the processes with one of these marks; returns whether others may be left."""
-        may_be_left = False
-        for process in sessions.members(self._session):
-            try:
-                own = Path(f"/proc/{process}/environ").read_bytes()
-                # (one that is about to become another program has no environment)
-                may_be_left |= not own
-                if not marks.isdisjoint(own.split(b"\0")):
-                    may_be_left = True
-                    os.kill(process, signal.SIGKILL)
-            except OSError:
-                pass
-        return may_be_left
+        """Kills the processes with one of these marks, and what they started without it; returns whether
+        others may be left.
+        """
+        assert self._child is not None
+        environments = dict(filter(None, map(_environment_of, set(self._child.processes()))))
+        marked = {it for it, own in environments.items() if not marks.isdisjoint(own)}
+        others = {it for it, own in environments.items() if not any(map(_OF_A_JOB.match, own))}
+        found = marked | sessions.below(marked, others)
+        sessions.kill(found)
+        # (one that is about to become another program has no environment)
+        return bool(found) or [b""] in environments.values()
 
     def _hear(self, child: ChildProcess) -> None:
         """Keeps the end of what ssh and GNU parallel say, until GNU parallel has ended."""
@@ -230,6 +250,14 @@ class Parallel:
 
 def _is_gnu(parallel: str) -> bool:
     return outcome_of([parallel, "--version"]).output.startswith(b"GNU parallel")
+
+
+def _environment_of(process: int) -> Optional[tuple[int, list[bytes]]]:
+    """Returns a process with the entries of its environment, if it hasn't ended."""
+    try:
+        return process, Path(f"/proc/{process}/environ").read_bytes().split(b"\0")
+    except OSError:
+        return None
 
 
 def _environment(room: Path) -> dict[str, str]:
@@ -278,18 +306,26 @@ def _look(
     room: Path,
     logins: list[str],
     look: Callable[[list[Ended]], bool],
+    is_stopped: threading.Event,
 ) -> None:
+    """Calls `look` until GNU parallel ends, or is stopped. Nothing of its session goes on then."""
     log = _Log(room / "log")
     before = len(logins)
     while True:
         ended = child.run.poll() is not None
         if not look(log.news()):
-            sessions.end(child.run.pid)
+            is_stopped.set()
+            child.end()
             return
         if len(logins) < before:
             before = len(logins)
             _write_logins(room, logins)
+        if child.run.returncode is not None and child.run.returncode < 0:
+            child.end()
+            return
         if ended:
+            # (what has its mark may hold a connection for later logins)
+            sessions.end(child.run.pid)
             return
         try:
             child.run.wait(_SECONDS_BETWEEN_LOOKS)
@@ -306,5 +342,4 @@ def _end(child: ChildProcess) -> None:
                 child.run.wait(_SECONDS_TO_END)
             except subprocess.TimeoutExpired:
                 pass
-    sessions.end(child.run.pid)
-    child.run.wait()
+    child.end()

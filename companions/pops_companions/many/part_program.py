@@ -60,6 +60,7 @@ class PartProgram(Runs):
 
     def __init__(self, path: str, depth: int):
         super().__init__("pops-part", [path])
+        self.path = path
         self.depth = depth
         # What parts had written that came to no end, as where they were stopped.
         self.begun: dict[Key, bytes] = {}

@@ -73,10 +73,10 @@ def find(named: Optional[str]) -> str:
         found = places.found(named)
         if found is None:
             raise MissingError(f"there is no program {named}")
-        return _without_script(found)
+        return without_script(found)
     found = _of_sources(REPOSITORY, "pops") or _beside() or places.found("pops")
     if found is not None:
-        return _without_script(found)
+        return without_script(found)
     if _is_repository(REPOSITORY):
         raise _unbuilt(REPOSITORY)
     raise MissingError("there is no program pops: name it with --pops")
@@ -98,7 +98,7 @@ def find_part_program(named: Optional[str], pops: str) -> str:
         found = places.found(named)
         if found is None:
             raise MissingError(f"there is no program {named}")
-        return _without_script(found, "pops-part")
+        return without_script(found, "pops-part")
     folder = folder_above(os.path.realpath(pops))
     # (built in crates/pops/out, or released in release)
     above = [folder_above(folder, 3), folder_above(folder)]
@@ -108,7 +108,7 @@ def find_part_program(named: Optional[str], pops: str) -> str:
     of_sources = [_of_sources(it, "pops-part") for it in repositories]
     for found in (*beside, *of_sources, places.found("pops-part")):
         if found is not None:
-            return _without_script(found, "pops-part")
+            return without_script(found, "pops-part")
     if _is_repository(REPOSITORY):
         raise _unbuilt(REPOSITORY, "pops-part")
     raise MissingError("there is no program pops-part, for --split: name it with --pops-part")
@@ -127,7 +127,7 @@ def _of_sources(repository: str, name: str) -> Optional[str]:
     return os.fsdecode(found.output).removesuffix("\n") or None
 
 
-def _without_script(found: str, name: str = "pops") -> str:
+def without_script(found: str, name: str = "pops") -> str:
     """Returns what was found; for a repository's script, which may build, the program of its
     sources.
     """

@@ -7,6 +7,7 @@ writes comes back line by line, as soon as it is written, and last how it ended.
 import base64
 import binascii
 import re
+import time
 from collections.abc import Callable, Iterable, Iterator, Sequence
 from typing import NamedTuple, Optional
 
@@ -14,15 +15,17 @@ from pops_companions.many.child_process import MOST_OUTPUT, wrote_more
 from pops_companions.many.machines import (
     FAILURES,
     MOST_OF_A_PROBE,
+    NO_REPORT_IN_TIME,
     PROBE,
     ROUNDS_WITHOUT_REPORT,
+    SECONDS_OF_A_PROBE,
     Machines,
     MachinesError,
     Watch,
     coded,
     logins_of,
 )
-from pops_companions.many.parallel import UNLESS_OVER, Ended, Parallel, machine_of
+from pops_companions.many.parallel import UNLESS_OVER, Ended, Jobs, Parallel, machine_of
 from pops_companions.many.part_program import PartProgram
 from pops_companions.many.parts import Key, Part, PartsError, count_in
 from pops_companions.many.program import SOUND, RunError
@@ -63,12 +66,13 @@ def _decoded(line: bytes) -> Optional[tuple[int, bytes]]:
 class Handling(NamedTuple):
     """What is done with parts. `keep` takes a part that is done and returns whether others no longer
     matter, `fail` reports parts that failed on a machine, with the reason. A part has at most `most`
-    bytes."""
+    bytes. After `seconds`, if there is a limit, all are ended."""
 
     keep: Callable[[Part, bytes], bool]
     fail: Callable[[Sequence[Part], str, str], None]
     is_needless: Callable[[Part], bool]
     most: int
+    seconds: Optional[float] = None
 
 
 class _Written:
@@ -185,8 +189,9 @@ class _Round:
         """Ends the round, after all jobs: a broken login failed at the first of its open parts, or at
         those that wrote too much."""
         failed: dict[tuple[str, str], list[Part]] = {}
-        for job, machine, _ in self._broken:
-            left = [number for number in self._jobs[job] if number in self._open]
+        for broken in self._broken:
+            machine = broken.machine
+            left = [number for number in self._jobs[broken.job] if number in self._open]
             flooded = [number for number in left if number in self._flooded]
             reason = wrote_more(self._handling.most) if flooded else self._parallel.last_error
             for number in flooded or left[:1]:
@@ -232,6 +237,7 @@ class RemoteParts:
             login for login in self._machines.alive if self._is_sound(login, part, wanted)
         ]
         self._machines.expect_some()
+        self._machines.compare(1, self._program.path)
 
     def _is_sound(self, login: str, part: Part, wanted: bytes) -> bool:
         for _ in range(FAILURES):
@@ -240,6 +246,7 @@ class RemoteParts:
                 return True
             if report is not None:
                 reason = "its pops-part gives another report"
+            if report is not None or reason == NO_REPORT_IN_TIME.format(SECONDS_OF_A_PROBE):
                 break
         self._say(f"machine {login} left out: {reason}")
         return False
@@ -256,7 +263,7 @@ class RemoteParts:
         def fail(parts: Sequence[Part], machine: str, reason: str) -> None:
             reasons.append(reason)
 
-        handling = Handling(keep, fail, lambda part: False, MOST_OF_A_PROBE)
+        handling = Handling(keep, fail, lambda part: False, MOST_OF_A_PROBE, SECONDS_OF_A_PROBE)
         self._hand_out([part], [login], handling)
         report = answers[0] if answers else None
         return report, reasons[0] if reasons else "no report came back"
@@ -299,14 +306,18 @@ class RemoteParts:
         """Hands out parts once, to these machines."""
         places = len(logins) * (self._parallel.jobs or _PLACES_OF_A_MACHINE)
         now = _Round(parts, places, self._parallel, Watch(self._machines), handling)
+        until = None if handling.seconds is None else time.monotonic() + handling.seconds
 
         def look(jobs: Sequence[Ended]) -> bool:
             now.note(jobs)
+            if until is not None and time.monotonic() > until:
+                handling.fail(parts, logins[0], NO_REPORT_IN_TIME.format(handling.seconds))
+                return False
             logins[:] = [login for login in logins if login in self._machines.alive]
             return bool(logins) and (len(parts) > 1 or now.useless <= handling.most)
 
         try:
-            self._parallel.run(logins, self._script, now.lines, now.take, look)
+            self._parallel.run(logins, Jobs(self._script, now.lines), now.take, look)
         finally:
             self._program.begun.update(now.begun())
         now.close()

@@ -2,17 +2,19 @@
 
 GNU parallel and `timeout` put what they start into a process group of its own, but all of it is in
 their session. What begins a session of its own still has a mark in its environment, unless it was
-emptied. Run as a program, this module ends a session and removes a folder; a shell waits for the
-moment at which the program that started it is killed.
+emptied, or holds a pipe that it inherited, unless it closed that. Run as a program, this module ends a
+session and removes a folder; a shell waits for the moment at which the program that started it is
+killed.
 """
 
 import os
 import signal
 import subprocess
 import sys
+import threading
 import time
-from collections.abc import Iterator
-from contextlib import contextmanager
+from collections.abc import Collection, Iterator
+from contextlib import contextmanager, suppress
 
 _SECONDS_BETWEEN = 0.05
 _ROUNDS = 100
@@ -31,14 +33,23 @@ def members(session: int) -> list[int]:
     found = []
     for process in _processes():
         try:
-            with open(f"/proc/{process}/stat", "rb") as file:
-                # The name is in brackets and may hold anything; the fields follow it.
-                fields = file.read().rpartition(b")")[2].split()
+            fields = _fields(process)
         except OSError:
             continue
         if int(fields[3]) == session and fields[0] not in (b"Z", b"X"):
             found.append(process)
     return found
+
+
+def _fields(process: int) -> list[bytes]:
+    """Returns what the system knows of a process: its state, its parent and more."""
+    with open(f"/proc/{process}/stat", "rb") as file:
+        # The name is in brackets and may hold anything; the fields follow it.
+        return file.read().rpartition(b")")[2].split()
+
+
+def _parent(process: int) -> int:
+    return int(_fields(process)[1])
 
 
 def _processes() -> list[int]:
@@ -71,6 +82,27 @@ def end_connections(folder: str) -> None:
             pass
 
 
+def name_of_pipe(handle: int) -> str:
+    """Returns the name by which the system lists who holds a pipe."""
+    return f"pipe:[{os.fstat(handle).st_ino}]"
+
+
+def _holding(pipe: str) -> list[int]:
+    """Returns the processes that hold a pipe, but for this one and the ones that it started itself: these
+    hold it for the moment in which they become other programs.
+    """
+    found, own = [], os.getpid()
+    for process in _processes():
+        folder = f"/proc/{process}/fd"
+        try:
+            if process != own and _parent(process) != own:
+                if any(os.readlink(f"{folder}/{name}") == pipe for name in os.listdir(folder)):
+                    found.append(process)
+        except OSError:
+            continue
+    return found
+
+
 def _marked(mark: str) -> list[int]:
     """Returns the processes with a mark in their environment."""
     found, entry = [], mark.encode("ascii") + b"="
@@ -84,21 +116,47 @@ def _marked(mark: str) -> list[int]:
     return found
 
 
-def end(session: int, mark: str = "") -> None:
-    """Kills all processes of a session, if it isn't 0, and those with a mark, new ones too; other users'
-    processes stay.
+def of_run(session: int, mark: str, pipe: str) -> list[int]:
+    """Returns all processes of a session, if it isn't 0, with a mark, and that hold a pipe."""
+    found = members(session) if session else []
+    return found + [*(_marked(mark) if mark else ()), *(_holding(pipe) if pipe else ())]
+
+
+def below(begun: set[int], others: set[int]) -> set[int]:
+    """Returns which of the other processes were started by some, or by what these started."""
+    parents = {}
+    for process in others:
+        with suppress(OSError):
+            parents[process] = _parent(process)
+    found = set(begun)
+    while more := {it for it, parent in parents.items() if parent in found} - found:
+        found |= more
+    return found - begun
+
+
+def end(session: int, mark: str = "", pipe: str = "") -> None:
+    """Kills all processes of a session, if it isn't 0, with a mark, and that hold a pipe, new ones too;
+    other users' processes stay.
     """
     for _ in range(_ROUNDS):
-        found = members(session) if session else []
-        if not any([_kill(process) for process in {*found, *(_marked(mark) if mark else ())}]):
+        if not kill(of_run(session, mark, pipe)):
             return
         time.sleep(_SECONDS_BETWEEN)
 
 
-def _kill(process: int) -> bool:
-    """Kills a process; returns whether this process may do that."""
+def kill(found: Collection[int]) -> bool:
+    """Kills processes; returns whether this process may kill any of them. All are stopped first, since a
+    shell whose child is killed goes on with its next command.
+    """
+    for process in found:
+        _send(process, signal.SIGSTOP)
+    return any([_send(process, signal.SIGKILL) for process in found])
+
+
+def _send(process: int, sign: int) -> bool:
+    """Sends a process a signal; returns whether this process may do that."""
     try:
-        os.kill(process, signal.SIGKILL)
+        os.kill(process, sign)
     except ProcessLookupError:
         pass
     except PermissionError:
@@ -138,16 +196,25 @@ def watched(session: int, folder: str) -> Iterator[None]:
 
 
 class Watcher:
-    """A process that ends a session, as `watched` does, and what has a mark, if this process is killed
-    before `end`.
+    """A process that ends a session, as `watched` does, what has a mark and what holds a pipe, if this
+    process is killed before `end`. If it is killed alone, another takes its place.
     """
 
-    def __init__(self, session: int, folder: str = "", mark: str = ""):
+    def __init__(self, session: int, folder: str = "", mark: str = "", pipe: str = ""):
         """Starts it. OSError where it can't be started."""
         # (a shell takes less to wait than Python)
         words = ["/bin/sh", "-c", _WAITS, "sh", sys.executable, "-I", __file__]
-        self._run = subprocess.Popen(
-            [*words, str(session), folder, mark],
+        self._words = [*words, str(session), folder, mark, pipe]
+        self._lock = threading.Lock()
+        self._is_over = False
+        self._run = self._started()
+        # (where there are no more threads, nobody sees to it)
+        with suppress(RuntimeError):
+            threading.Thread(target=self._replace, daemon=True).start()
+
+    def _started(self) -> "subprocess.Popen[bytes]":
+        return subprocess.Popen(
+            self._words,
             stdin=subprocess.PIPE,
             stdout=subprocess.DEVNULL,
             start_new_session=True,
@@ -155,16 +222,28 @@ class Watcher:
             env={name: value for name, value in os.environ.items() if not name.startswith(_MARK)},
         )
 
+    def _replace(self) -> None:
+        """Starts the process again whenever it ends before `end`."""
+        for _ in range(_ROUNDS):
+            self._run.wait()
+            with self._lock, suppress(OSError):
+                if self._is_over:
+                    return
+                self._run.communicate()
+                self._run = self._started()
+
     def end(self) -> None:
         """Ends the watch. (Killed before its input ends, the process does nothing.)"""
-        self._run.kill()
-        self._run.communicate()
+        with self._lock:
+            self._is_over = True
+            self._run.kill()
+            self._run.communicate()
 
 
 def main() -> None:
-    session, folder, mark = sys.argv[1:]
+    session, folder, mark, pipe = sys.argv[1:]
     sys.stdin.buffer.read()
-    end(int(session), mark)
+    end(int(session), mark, pipe)
     if folder:
         import shutil
 

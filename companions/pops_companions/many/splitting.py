@@ -55,9 +55,9 @@ class Splitting:
         return list(self._failed.values())
 
     def cut(self, tasks: Sequence[Task]) -> None:
-        """Cuts problems up that aren't yet."""
+        """Cuts problems up that aren't yet. One that turned out faulty is done."""
         for task in tasks:
-            if task.place not in self._problems:
+            if task.place not in self._problems and not self._journal.is_finished(task.place):
                 try:
                     self._cut(task)
                 except (PartsError, RunError) as error:

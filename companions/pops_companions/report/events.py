@@ -2,7 +2,7 @@
 
 from dataclasses import dataclass
 from enum import Enum
-from typing import Optional, Union
+from typing import Optional
 
 from pops_companions.chess.stipulation import Condition, Stipulation
 from pops_companions.report.items import Board, Fault, HelpLine, PhaseKind, Total
@@ -33,25 +33,34 @@ class Place(Enum):
 
 
 @dataclass(frozen=True)
-class ProblemEvent:
-    """A problem begins; `problem` is its number."""
+class Event:
+    """What a line, or a part of one, says; `problem` is the number of its problem."""
 
     problem: int
 
 
 @dataclass(frozen=True)
-class FaultEvent:
+class _OfPhase(Event):
+    """What is said of a phase."""
+
+    phase: PhaseKind
+
+
+class ProblemEvent(Event):
+    """A problem begins."""
+
+
+@dataclass(frozen=True)
+class FaultEvent(Event):
     """The problem is faulty."""
 
-    problem: int
     fault: Fault
 
 
 @dataclass(frozen=True)
-class HeadEvent:
+class HeadEvent(Event):
     """The head of a sound problem. Title and author are bytes as the problem gave them."""
 
-    problem: int
     title: Optional[bytes]
     author: Optional[bytes]
     board: Optional[Board]
@@ -59,47 +68,32 @@ class HeadEvent:
     condition: Optional[Condition]
 
 
-@dataclass(frozen=True)
-class CheckedEvent:
+class CheckedEvent(Event):
     """The problem was checked, is sound, and isn't solved."""
 
-    problem: int
 
-
-@dataclass(frozen=True)
-class PhaseEvent:
+class PhaseEvent(_OfPhase):
     """A phase begins."""
 
-    problem: int
-    phase: PhaseKind
 
-
-@dataclass(frozen=True)
-class NotPossibleEvent:
+class NotPossibleEvent(_OfPhase):
     """The phase isn't possible, and ends."""
 
-    problem: int
-    phase: PhaseKind
-
 
 @dataclass(frozen=True)
-class LineEvent:
+class LineEvent(_OfPhase):
     """A solution of help play."""
 
-    problem: int
-    phase: PhaseKind
     line: HelpLine
 
 
 @dataclass(frozen=True)
-class NodeEvent:
+class NodeEvent(_OfPhase):
     """A move of battle play, below the last node before it that has one level less.
 
     `text` is its line with its number and without the blanks before it.
     """
 
-    problem: int
-    phase: PhaseKind
     place: Place
     level: int
     text: str
@@ -107,94 +101,57 @@ class NodeEvent:
 
 
 @dataclass(frozen=True)
-class TotalEvent:
+class TotalEvent(_OfPhase):
     """The phase ends with the number of its solutions."""
 
-    problem: int
-    phase: PhaseKind
     total: Total
 
 
-@dataclass(frozen=True)
-class NoTriesEvent:
+class NoTriesEvent(Event):
     """Help play, of which there are no tries."""
 
-    problem: int
-
 
 @dataclass(frozen=True)
-class FirstMoveEvent:
+class FirstMoveEvent(Event):
     """A key or a try. `text` is its line."""
 
-    problem: int
     kind: FirstMoveKind
     text: str
     move: PlayedMove
 
 
 @dataclass(frozen=True)
-class MenaceEvent:
+class MenaceEvent(Event):
     """What the first move before it menaces."""
 
-    problem: int
     menace: Menace
 
 
 @dataclass(frozen=True)
-class RefutationEvent:
+class RefutationEvent(Event):
     """A reply that refutes the try before it. `text` is its line without the blanks before it."""
 
-    problem: int
     text: str
     move: PlayedMove
 
 
-@dataclass(frozen=True)
-class StalemateEvent:
+class StalemateEvent(Event):
     """The try before it stalemates, which refutes it."""
 
-    problem: int
 
-
-@dataclass(frozen=True)
-class TriesEvent:
+class TriesEvent(Event):
     """The tries begin."""
 
-    problem: int
-
 
 @dataclass(frozen=True)
-class TriesTotalEvent:
+class TriesTotalEvent(Event):
     """The tries end with their number."""
 
-    problem: int
     count: int
 
 
 @dataclass(frozen=True)
-class EndEvent:
+class EndEvent(Event):
     """The problem ends. `unfinished` says why it ends early, and is None for a finished one."""
 
-    problem: int
     unfinished: Optional[str]
-
-
-Event = Union[
-    ProblemEvent,
-    FaultEvent,
-    HeadEvent,
-    CheckedEvent,
-    PhaseEvent,
-    NotPossibleEvent,
-    LineEvent,
-    NodeEvent,
-    TotalEvent,
-    NoTriesEvent,
-    FirstMoveEvent,
-    MenaceEvent,
-    RefutationEvent,
-    StalemateEvent,
-    TriesEvent,
-    TriesTotalEvent,
-    EndEvent,
-]

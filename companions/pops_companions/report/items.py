@@ -1,6 +1,6 @@
 """What a report says of each problem."""
 
-from collections.abc import Iterable, Iterator
+from collections.abc import Iterable, Iterator, Mapping
 from dataclasses import dataclass, field
 from enum import Enum
 from typing import Optional, TypeVar, Union
@@ -60,12 +60,36 @@ class Phase:
     def is_possible(self) -> bool:
         return self.last_line != lines.NOT_POSSIBLE.decode("ascii")
 
+    @property
+    def nodes(self) -> list[Node]:
+        """The moves of battle play of the first level."""
+        return [it for it in self.solutions if isinstance(it, Node)]
+
+    @property
+    def help_lines(self) -> list[HelpLine]:
+        return [it for it in self.solutions if isinstance(it, HelpLine)]
+
+    @property
+    def texts(self) -> tuple[str, ...]:
+        """The help lines, or the moves of the first level, as the report has them."""
+        return tuple(it.text.strip() for it in self.solutions)
+
 
 @dataclass(frozen=True)
 class Board:
     """A printed board: eight ranks, rank 8 first, of eight letters or points."""
 
     ranks: tuple[str, ...]
+
+    @staticmethod
+    def of_letters(letters: str) -> "Board":
+        """Returns the board of the letters and points of all ranks."""
+        return Board(tuple(letters[place : place + 8] for place in range(0, 64, 8)))
+
+    @staticmethod
+    def of_men(men: Mapping[Square, Man]) -> "Board":
+        letters = (men[it].letter if it in men else "." for it in Square.of_diagram())
+        return Board.of_letters("".join(letters))
 
     @property
     def letters(self) -> str:
@@ -121,6 +145,10 @@ class SoundItem:
         """The line of stipulation and condition, as `h#2.5 Circe`."""
         condition = f" {self.condition.value}" if self.condition is not None else ""
         return self.stipulation.text + condition
+
+    def phase(self, kind: PhaseKind) -> Optional[Phase]:
+        """Returns a phase; None where the report doesn't show it."""
+        return next((it for it in self.phases or () if it.kind is kind), None)
 
 
 @dataclass(frozen=True)

@@ -44,12 +44,12 @@ class PlayedMove:
     kind: Kind
     origin: Square
     arrival: Square
-    capture: bool
-    en_passant: bool
-    promotion: Optional[Kind]
-    castling: Optional[Castling]
-    rebirth: Optional[Rebirth]
-    mark: Optional[Mark]
+    capture: bool = False
+    en_passant: bool = False
+    promotion: Optional[Kind] = None
+    castling: Optional[Castling] = None
+    rebirth: Optional[Rebirth] = None
+    mark: Optional[Mark] = None
 
 
 _REBORN = LETTERS.replace("K", "")
@@ -80,20 +80,9 @@ def _played(parts: "re.Match[str]", half: int, side: Colour) -> PlayedMove:
     if parts["castling"]:
         castling = Castling(parts["castling"])
         rank = 1 if side is Colour.WHITE else 8
-        arrival = Square(7 if castling is Castling.SHORT else 3, rank)
+        king, arrival = Square(5, rank), Square(7 if castling is Castling.SHORT else 3, rank)
         return PlayedMove(
-            parts[0],
-            half,
-            side,
-            Kind.KING,
-            Square(5, rank),
-            arrival,
-            False,
-            False,
-            None,
-            castling,
-            None,
-            mark,
+            parts[0], half, side, Kind.KING, king, arrival, castling=castling, mark=mark
         )
     rebirth = None
     if parts["reborn_kind"]:

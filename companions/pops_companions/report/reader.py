@@ -65,11 +65,9 @@ def asked_of(line: bytes) -> tuple[Stipulation, Optional[Condition]]:
     return Stipulation.of_text(words[0]), Condition(words[1]) if len(words) > 1 else None
 
 
-class LineReader:
-    """Reads the heads of problems; what follows the head is up to subclasses.
-
-    Its state is the method that takes the next line; a line that ends a list passes it on to the
-    next state.
+class ReportReader:
+    """Reads a report. Its state is the method that takes the next line; a line that ends a list passes it
+    on to the next state.
     """
 
     def __init__(self, allowed: Allowed, line: int = 0):
@@ -83,6 +81,18 @@ class LineReader:
         self._title: Optional[bytes] = None
         self._author: Optional[bytes] = None
         self._ranks: list[str] = []
+        self._stipulation = Stipulation.of_text("#1")
+        self._kind = items.PhaseKind.PLAY
+        self._count = 0
+        self._deepest = 0
+        # What lines of battle play say, for each first half-move.
+        self._known: dict[int, KnownNodes] = {}
+        self._known_here: KnownNodes = {}
+        # The moves of lines of help play by their words, for each place, for each first half-move.
+        self._known_moves: dict[int, list[dict[str, PlayedMove]]] = {}
+        self._known_moves_here: list[dict[str, PlayedMove]] = []
+        # What short items say after their boards.
+        self._tails: dict[bytes, _Tail] = {}
 
     def feed(self, data: bytes) -> Iterator[events.Event]:
         """Takes some bytes of the text, cut anywhere, and yields what they say.
@@ -204,34 +214,11 @@ class LineReader:
         names = (self._title, self._author, board)
         return (events.HeadEvent(self._number, *names, stipulation, condition),)
 
-    def _begin(self, stipulation: Stipulation) -> None:
-        """Sets the state that takes the first line after the head."""
-        raise NotImplementedError
-
     def _end(self, line: bytes) -> Sequence[events.Event]:
         if line != b"":
             raise self.refused("an empty line", line)
         self._state = self._problem
         return (events.EndEvent(self._number, self._unfinished),)
-
-
-class ReportReader(LineReader):
-    """Reads the phases of a report."""
-
-    def __init__(self, allowed: Allowed, line: int = 0):
-        super().__init__(allowed, line)
-        self._stipulation = Stipulation.of_text("#1")
-        self._kind = items.PhaseKind.PLAY
-        self._count = 0
-        self._deepest = 0
-        # What lines of battle play say, for each first half-move.
-        self._known: dict[int, KnownNodes] = {}
-        self._known_here: KnownNodes = {}
-        # The moves of lines of help play by their words, for each place, for each first half-move.
-        self._known_moves: dict[int, list[dict[str, PlayedMove]]] = {}
-        self._known_moves_here: list[dict[str, PlayedMove]] = []
-        # What short items say after their boards.
-        self._tails: dict[bytes, _Tail] = {}
 
     def feed_builder(self, data: bytes, builder: ItemBuilder) -> Iterator[items.AnyItem]:
         """Takes some bytes as `feed` does, and yields the items that end in them.
@@ -370,6 +357,7 @@ class ReportReader(LineReader):
         return True
 
     def _begin(self, stipulation: Stipulation) -> None:
+        """Sets the state that takes the first line after the head."""
         self._stipulation = stipulation
         self._state = self._first_phase
 
@@ -493,9 +481,9 @@ def _board_of(lines_of_ranks: bytes) -> items.Board:
     return items.Board(tuple([intern(text[at : at + 8]) for at in range(2, len(text), 11)]))
 
 
-def read_events(reader: LineReader, source: Iterable[bytes]) -> Iterator[events.Event]:
+def read_events(reader: ReportReader, source: Iterable[bytes]) -> Iterator[events.Event]:
     """Yields what a text says, whose bytes come in pieces of any size, as from a binary file."""
-    for data in _pieces(source):
+    for data in pieces_of(source):
         yield from reader.feed(data)
     yield from reader.close()
 
@@ -523,7 +511,7 @@ def _items(
     allowed: Allowed, source: Iterable[bytes], line: int = 0
 ) -> Iterator[items.AnyItem]:
     reader, builder = ReportReader(allowed, line), ItemBuilder()
-    for data in _pieces(source):
+    for data in pieces_of(source):
         yield from reader.feed_builder(data, builder)
     for event in reader.close():
         item = builder.take(event)
@@ -531,8 +519,9 @@ def _items(
             yield item
 
 
-def _pieces(source: Iterable[bytes]) -> Iterator[bytes]:
-    """Yields the bytes of a source, of a binary file in pieces longer than a line."""
+def pieces_of(source: Iterable[bytes]) -> Iterator[bytes]:
+    """Yields the bytes of a source, of a binary file in pieces, each as soon as it has come."""
+    # (a read gives what has come, and waits only for the first byte)
     if not isinstance(source, io.BufferedIOBase):
         yield from source
         return

@@ -1,6 +1,5 @@
 """A report as a companion reads it, and what the companion says if it isn't one."""
 
-import io
 import os
 import sys
 from collections.abc import Callable, Iterable, Iterator
@@ -17,6 +16,7 @@ from pops_companions.report.reader import (
     Allowed,
     ReportError,
     ReportReader,
+    pieces_of,
     read_events,
     read_report,
     read_unfinished_report,
@@ -34,8 +34,6 @@ from pops_companions.show.titles import is_text
 UNFINISHED = ".unfinished"
 
 Read = TypeVar("Read", Item, AnyItem, AnyTriesItem)
-# The most bytes of a piece of a text.
-_PIECE = 1 << 16
 
 
 class Text(Enum):
@@ -155,14 +153,6 @@ def is_input(line: bytes) -> bool:
     """Returns whether a text's first line shows that it is an input of pops."""
     words = line.split(None, 1)
     return bool(words) and is_short_for(words[0], "BeginProblem")
-
-
-def pieces_of(source: BinaryIO) -> Iterator[bytes]:
-    """Yields the bytes of a source in pieces, each as soon as it has come."""
-    # (a read gives what has come, and waits only for the first byte)
-    assert isinstance(source, io.BufferedIOBase)
-    while piece := source.read1(_PIECE):
-        yield piece
 
 
 class _Pieces:

@@ -1,10 +1,10 @@
 """What two reports of one problem differ in: solutions, totals, faults and the problem itself."""
 
+from collections import Counter
 from collections.abc import Sequence
-from dataclasses import dataclass, field, fields
+from dataclasses import dataclass, field
 from typing import Optional
 
-from pops_companions.chess.men import Colour, Man, Square
 from pops_companions.report.items import (
     Board,
     FaultyItem,
@@ -17,41 +17,32 @@ from pops_companions.report.items import (
 )
 from pops_companions.report.moves import PlayedMove
 from pops_companions.review.duals import line_text
-from pops_companions.review.matching import Pair
 from pops_companions.review.naming import described, shown
+
+
+@dataclass(frozen=True)
+class Pair:
+    """A problem in both reports, or in one alone."""
+
+    old: Optional[Item]
+    new: Optional[Item]
 
 
 @dataclass
 class Counts:
-    """How much was gained and lost."""
+    """How many problems, solutions, variations and faults were gained and lost.
 
-    problems_gained: int = 0
-    problems_lost: int = 0
-    solutions_gained: int = 0
-    solutions_lost: int = 0
-    variations_gained: int = 0
-    variations_lost: int = 0
-    faults_gained: int = 0
-    faults_lost: int = 0
+    A solution is a line, a key or a first move of set play, a variation a move below one.
+    """
+
+    gained: "Counter[str]" = field(default_factory=Counter)
+    lost: "Counter[str]" = field(default_factory=Counter)
     totals_changed: int = 0
 
     def add(self, other: "Counts") -> None:
-        for one in fields(self):
-            setattr(self, one.name, getattr(self, one.name) + getattr(other, one.name))
-
-    def gain(self, is_solution: bool) -> None:
-        """Counts a line, a key or a first move of set play, or else a move below one."""
-        if is_solution:
-            self.solutions_gained += 1
-        else:
-            self.variations_gained += 1
-
-    def lose(self, is_solution: bool) -> None:
-        """As `gain`, for what the new report lacks."""
-        if is_solution:
-            self.solutions_lost += 1
-        else:
-            self.variations_lost += 1
+        self.gained.update(other.gained)
+        self.lost.update(other.lost)
+        self.totals_changed += other.totals_changed
 
 
 @dataclass
@@ -69,11 +60,15 @@ class Differences:
         if old != new:
             self.lines.append(f"  {name}: {old or 'none'} -> {new or 'none'}")
 
-    def gain(self, text: str) -> None:
+    def gain(self, text: str, what: str = "") -> None:
+        """Says what only NEW has; `what` counts it."""
         self.lines.append(f"    + {text}")
+        self.counts.gained.update([what] if what else [])
 
-    def lose(self, text: str) -> None:
+    def lose(self, text: str, what: str = "") -> None:
+        """As `gain`, for OLD."""
         self.lines.append(f"    - {text}")
+        self.counts.lost.update([what] if what else [])
 
 
 def heading(pair: Pair, encoding: str) -> str:
@@ -97,14 +92,14 @@ def differences_of(pair: Pair, encoding: str) -> Differences:
     found = Differences()
     old, new = pair.old, pair.new
     if old is None:
-        found.counts.problems_gained = 1
+        found.counts.gained["problems"] += 1
     elif new is None:
-        found.counts.problems_lost = 1
+        found.counts.lost["problems"] += 1
     elif isinstance(old, FaultyItem) or isinstance(new, FaultyItem):
         _compare_faults(found, old, new)
     else:
         _compare_problems(found, old, new, encoding)
-        _compare_phases(found, old.phases, new.phases)
+        _compare_phases(found, old, new)
     return found
 
 
@@ -118,11 +113,9 @@ def _compare_faults(found: Differences, old: Item, new: Item) -> None:
         return
     found.lines.append("  fault")
     if before:
-        found.lose(before)
-        found.counts.faults_lost += 1
+        found.lose(before, "faults")
     if after:
-        found.gain(after)
-        found.counts.faults_gained += 1
+        found.gain(after, "faults")
 
 
 def _compare_problems(found: Differences, old: SoundItem, new: SoundItem, encoding: str) -> None:
@@ -141,28 +134,22 @@ def _men(board: Board, other: Board) -> list[str]:
     """Returns the men that a board has and the other hasn't, as `White Ra1`."""
     others = other.men
     return [
-        _placed(man, square) for square, man in board.men.items() if others.get(square) != man
+        f"{man.colour.name.title()} {man.kind.value}{square.name}"
+        for square, man in board.men.items()
+        if others.get(square) != man
     ]
 
 
-def _placed(man: Man, square: Square) -> str:
-    colour = "White" if man.colour is Colour.WHITE else "Black"
-    return f"{colour} {man.kind.value}{square.name}"
-
-
-def _compare_phases(
-    found: Differences, old: Optional[tuple[Phase, ...]], new: Optional[tuple[Phase, ...]]
-) -> None:
-    if old is None or new is None:
-        found.change("solved", _said(old is not None), _said(new is not None))
+def _compare_phases(found: Differences, old: SoundItem, new: SoundItem) -> None:
+    if old.phases is None or new.phases is None:
+        found.change("solved", _said(old.phases is not None), _said(new.phases is not None))
         return
-    before = {phase.kind: phase for phase in old}
-    after = {phase.kind: phase for phase in new}
     for kind in PhaseKind:
-        if kind in before and kind in after:
-            _compare_phase(found, before[kind], after[kind])
+        before, after = old.phase(kind), new.phase(kind)
+        if before is not None and after is not None:
+            _compare_phase(found, before, after)
         else:
-            found.change(f"{kind.value} play", _said(kind in before), _said(kind in after))
+            found.change(f"{kind.value} play", _said(before is not None), _said(after is not None))
 
 
 def _said(true: bool) -> str:
@@ -173,8 +160,8 @@ def _compare_phase(found: Differences, old: Phase, new: Phase) -> None:
     if old.lines == new.lines and old.last_line == new.last_line:
         return
     inside = Differences(counts=found.counts)
-    _compare_lines(inside, _help_lines(old), _help_lines(new))
-    deeper = _compare_nodes(inside, _nodes(old), _nodes(new), ())
+    _compare_lines(inside, old.help_lines, new.help_lines)
+    deeper = _compare_nodes(inside, old.nodes, new.nodes, ())
     inside.lines.extend(f"    variations in {report} only" for report in sorted(deeper))
     if old.last_line != new.last_line:
         inside.counts.totals_changed += 1
@@ -183,24 +170,14 @@ def _compare_phase(found: Differences, old: Phase, new: Phase) -> None:
         found.lines.extend([f"  {old.kind.value}", *inside.lines])
 
 
-def _help_lines(phase: Phase) -> list[str]:
-    return [line.text for line in phase.solutions if isinstance(line, HelpLine)]
-
-
-def _nodes(phase: Phase) -> list[Node]:
-    return [node for node in phase.solutions if isinstance(node, Node)]
-
-
-def _compare_lines(found: Differences, old: list[str], new: list[str]) -> None:
-    before, after = set(old), set(new)
+def _compare_lines(found: Differences, old: list[HelpLine], new: list[HelpLine]) -> None:
+    before, after = {it.text for it in old}, {it.text for it in new}
     for line in old:
-        if line not in after:
-            found.lose(line)
-            found.counts.lose(is_solution=True)
+        if line.text not in after:
+            found.lose(line.text, "solutions")
     for line in new:
-        if line not in before:
-            found.gain(line)
-            found.counts.gain(is_solution=True)
+        if line.text not in before:
+            found.gain(line.text, "solutions")
 
 
 def _compare_nodes(
@@ -209,18 +186,17 @@ def _compare_nodes(
     """Compares trees node by node; returns which report alone shows moves below a node."""
     before = {node.move.text: node for node in old}
     after = {node.move.text: node for node in new}
+    what = "variations" if path else "solutions"
     deeper: set[str] = set()
     for text, node in before.items():
         other = after.get(text)
         if other is None:
-            found.lose(line_text((*path, node.move)))
-            found.counts.lose(is_solution=not path)
+            found.lose(line_text((*path, node.move)), what)
         elif bool(node.below) != bool(other.below):
             deeper.add("OLD" if node.below else "NEW")
         else:
             deeper |= _compare_nodes(found, node.below, other.below, (*path, node.move))
     for text, node in after.items():
         if text not in before:
-            found.gain(line_text((*path, node.move)))
-            found.counts.gain(is_solution=not path)
+            found.gain(line_text((*path, node.move)), what)
     return deeper

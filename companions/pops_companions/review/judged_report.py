@@ -9,8 +9,8 @@ from typing import BinaryIO, NamedTuple, Union
 
 from pops_companions.many.forked import Alone, Copies, can_fork
 from pops_companions.report.items import AnyItem
-from pops_companions.report.reader import read_unfinished_report
-from pops_companions.report.source import NamedText, pieces_of
+from pops_companions.report.reader import pieces_of, read_unfinished_report
+from pops_companions.report.source import NamedText
 from pops_companions.review.beside import Beside, Course
 from pops_companions.review.in_pieces import Cutter, Piece, Place, is_large
 from pops_companions.review.judged_groups import JudgedGroup, judged_groups

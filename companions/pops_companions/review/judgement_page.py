@@ -9,29 +9,11 @@ from pops_companions.review.judged_groups import JudgedGroup
 from pops_companions.review.judgement_text import Tally, lines_of, name_of
 from pops_companions.review.judging import Finding
 from pops_companions.show import diagram
+from pops_companions.show.page import framed
 from pops_companions.show.titles import printable
+from pops_companions.stored import stored_text
 
-STYLE = """
-body { font: 11pt/1.35 serif; margin: 1.5em auto; max-width: 60em; padding: 0 1em;
-  color: #000; background: #fff; overflow-wrap: anywhere; }
-h1 { font-size: 1.5em; font-weight: normal; border-bottom: 1px solid #000; }
-h2 { font-size: 1em; margin: 0 0 .3em; }
-h3 { font-size: 1em; font-weight: normal; margin: .6em 0 0; }
-table { border-collapse: collapse; width: 100%; }
-th, td { text-align: left; vertical-align: top; padding: .15em .6em .15em 0;
-  border-bottom: 1px solid #ddd; white-space: nowrap; }
-.name { white-space: normal; width: 100%; }
-.unsound, .faulty { font-weight: bold; }
-.undecided { font-style: italic; }
-article { display: grid; grid-template-columns: 15em minmax(0, 1fr); gap: 0 2em;
-  margin: 1.2em 0 0; padding-top: .8em; border-top: 1px solid #bbb; break-inside: avoid; }
-.finding { margin: 0; }
-.flaw, .fault { font-weight: bold; }
-.open { font-style: italic; }
-pre { font: 9.5pt/1.35 monospace; margin: .1em 0 .5em 1em; white-space: pre-wrap; }
-.diagram { width: 100%; display: block; }
-@media (max-width: 34em) { article { grid-template-columns: minmax(0, 1fr); } }
-"""
+STYLE = stored_text("review/judgement_page.css")
 
 
 def page(
@@ -45,21 +27,9 @@ def page(
         rows.append(_row(one, place if has_more else None, encoding))
         if has_more:
             articles.append(_article(one, place, encoding, most))
-    title = html.escape(heading)
-    return "".join(
-        [
-            '<!DOCTYPE html>\n<html lang="en">\n<head>\n<meta charset="utf-8"/>\n',
-            '<meta name="viewport" content="width=device-width"/>\n',
-            f"<title>{title}</title>\n<style>{STYLE}</style>\n</head>\n<body>\n",
-            diagram.shapes(),
-            f"<h1>{title}</h1>\n<p>{tally.text}</p>\n",
-            "<table>\n<tr><th>No.</th><th>Problem</th><th>Verdict</th></tr>\n",
-            *rows,
-            "</table>\n",
-            *articles,
-            "</body>\n</html>\n",
-        ]
-    )
+    head = "<tr><th>No.</th><th>Problem</th><th>Verdict</th></tr>\n"
+    parts = [f"<p>{tally.text}</p>\n<table>\n{head}", *rows, "</table>\n", *articles]
+    return framed(html.escape(heading), [STYLE], parts)
 
 
 def _row(one: JudgedGroup, place: Optional[int], encoding: str) -> str:

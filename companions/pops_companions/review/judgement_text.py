@@ -1,7 +1,6 @@
 """Judgements as text and as CSV."""
 
 import re
-import unicodedata
 from collections import Counter
 from collections.abc import Iterable, Iterator
 from typing import Optional
@@ -11,35 +10,21 @@ from pops_companions.review.judged_groups import JudgedGroup
 from pops_companions.review.judging import Finding, Judgement, Verdict
 from pops_companions.review.naming import counted, described, joined_name, shown
 from pops_companions.show.titles import printable
+from pops_companions.tables import uncomputed
 
 # How many moves of a finding are shown without --all.
 MOST_LINES = 10
-# What a text begins with that a spreadsheet computes, also in another width.
-_OF_FORMULAS = ("=", "+", "-", "@")
-_ENDS_OF_CELLS = ("\t", "\r", "\n")
 # What parts cells for some reader: the semicolon where the comma is in numbers.
 _PARTING = re.compile('[,;\t\r\n\u2028\u2029"]')
-# Parts cells for a reader that takes no comma for an end: to it a quote after a comma is none.
-_OTHER_PARTING = re.compile("([;\t\r\n])")
 
+# Numbers of a judgement, by the names of their columns.
+_NUMBERS = (
+    *("wanted", "short_solutions", "duals_at_the_end", "duals_earlier", "set_solutions"),
+    *("unprovided_checks", "threats", "tries"),
+)
 COLUMNS = (
-    "number",
-    "title",
-    "author",
-    "stipulation",
-    "condition",
-    "verdict",
-    "solutions",
-    "stopped",
-    "wanted",
-    "short_solutions",
-    "duals_at_the_end",
-    "duals_earlier",
-    "set_solutions",
-    "unprovided_checks",
-    "threats",
-    "tries",
-    "reasons",
+    *("number", "title", "author", "stipulation", "condition", "verdict", "solutions", "stopped"),
+    *(*_NUMBERS, "reasons"),
 )
 
 
@@ -87,21 +72,9 @@ def csv_line(values: "tuple[object, ...]") -> str:
 
 
 def _cell(value: object) -> str:
-    """Returns a cell; a text that a spreadsheet would compute has an apostrophe in front, so has the
-    text after a semicolon or a tab, where a quote may open a cell.
-    """
-    text = "" if value is None else str(value)
-    if isinstance(value, str):
-        first, *others = _OTHER_PARTING.split(text)
-        others[1::2] = [f"'{it}" if _is_formula(it.replace('"', "")) else it for it in others[1::2]]
-        text = "".join([f"'{first}" if _is_formula(text) else first, *others])
+    """Returns a cell, whose text no spreadsheet computes."""
+    text = "" if value is None else uncomputed(value) if isinstance(value, str) else str(value)
     return '"{}"'.format(text.replace('"', '""')) if _PARTING.search(text) else text
-
-
-def _is_formula(text: str) -> bool:
-    """Returns whether a spreadsheet may compute a text: some drop what nobody sees in front."""
-    sign = next((it for it in text if unicodedata.category(it)[0] not in "CZ"), "")
-    return text.startswith(_ENDS_OF_CELLS) or unicodedata.normalize("NFKC", sign) in _OF_FORMULAS
 
 
 def as_csv(judgement: Judgement, encoding: str) -> str:
@@ -118,14 +91,7 @@ def as_csv(judgement: Judgement, encoding: str) -> str:
             judgement.verdict.value,
             judgement.solutions,
             "" if judgement.solutions is None else "yes" if judgement.stopped else "no",
-            judgement.wanted,
-            judgement.short_solutions,
-            judgement.duals_at_the_end,
-            judgement.duals_earlier,
-            judgement.set_solutions,
-            judgement.unprovided_checks,
-            judgement.threats,
-            judgement.tries,
+            *(getattr(judgement, name) for name in _NUMBERS),
             "; ".join(judgement.reasons),
         )
     )

@@ -16,7 +16,6 @@ from pops_companions.report.items import (
     Board,
     FaultyItem,
     HeadlessItem,
-    HelpLine,
     Node,
     Phase,
     PhaseKind,
@@ -159,7 +158,7 @@ def judged(
     judgement.wanted = wanted
     if item.board is not None:
         _warn_of_men(judgement, item.board)
-    play = _phase(item, PhaseKind.PLAY)
+    play = item.phase(PhaseKind.PLAY)
     if item.unfinished is not None and (play is None or play.total is None):
         _judge_unfinished(judgement, item, play, short)
         return judgement
@@ -253,12 +252,12 @@ def _judge_unfinished(
     found, wanted = len(solutions), judgement.wanted
     judgement.solutions, judgement.stopped = found, True
     word = "solution" if item.stipulation.play is Play.HELP else "key"
-    lines = () if play is None else _texts(play)
+    lines = () if play is None else play.texts
     if found > wanted:
         text = f"cooked: at least {counted(found, word)}, {wanted} wanted"
         judgement.find_in_solutions(Weight.FLAW, text, lines)
     is_short = _can_be_short(item.stipulation)
-    ending = [node.text for node in solutions if isinstance(node, Node) and _ends(node.move)]
+    ending = [] if play is None else [it.text for it in play.nodes if _ends(it.move)]
     asked = (*(short or ()), *(text for text in ending if text not in (short or ())))
     if is_short and asked:
         judgement.short_solutions = len(asked)
@@ -277,21 +276,6 @@ def missing(number: int) -> Judgement:
     return judgement
 
 
-def _phase(item: SoundItem, kind: PhaseKind) -> Optional[Phase]:
-    for phase in item.phases or ():
-        if phase.kind is kind:
-            return phase
-    return None
-
-
-def _texts(phase: Phase) -> tuple[str, ...]:
-    return tuple(solution.text.strip() for solution in phase.solutions)
-
-
-def _nodes(phase: Phase) -> list[Node]:
-    return [solution for solution in phase.solutions if isinstance(solution, Node)]
-
-
 def _judge_number(judgement: Judgement, stipulation: Stipulation, play: Phase) -> None:
     assert play.total is not None and judgement.wanted is not None
     found, wanted = play.total.count, judgement.wanted
@@ -300,15 +284,15 @@ def _judge_number(judgement: Judgement, stipulation: Stipulation, play: Phase) -
     least = "at least " if judgement.stopped else ""
     if found > wanted:
         text = f"cooked: {least}{counted(found, word)}, {wanted} wanted"
-        judgement.find_in_solutions(Weight.FLAW, text, _texts(play))
+        judgement.find_in_solutions(Weight.FLAW, text, play.texts)
     elif judgement.stopped:
         text = f"stopped: {least}{counted(found, word)}, {wanted} wanted"
-        judgement.find_in_solutions(Weight.OPEN, text, _texts(play))
+        judgement.find_in_solutions(Weight.OPEN, text, play.texts)
     elif found == 0:
         judgement.find(Weight.FLAW, "no solution")
     elif found < wanted:
         text = f"solutions missing: {counted(found, word)}, {wanted} wanted"
-        judgement.find_in_solutions(Weight.FLAW, text, _texts(play))
+        judgement.find_in_solutions(Weight.FLAW, text, play.texts)
 
 
 def _judge_keys(judgement: Judgement, stipulation: Stipulation, play: Phase) -> None:
@@ -316,7 +300,7 @@ def _judge_keys(judgement: Judgement, stipulation: Stipulation, play: Phase) -> 
     if stipulation.moves == 1:
         return
     traits: dict[str, None] = {}
-    for key in _nodes(play):
+    for key in play.nodes:
         move = key.move
         found = ["check"] * (move.mark is Mark.CHECK) + ["capture"] * move.capture
         said = {"check": "gives check", "capture": "captures"}
@@ -334,7 +318,7 @@ def _judge_short_solutions(
         asked = ()
     lines = list(asked or ())
     all_shown = stipulation.play is not Play.HELP and not judgement.stopped
-    for key in _nodes(play):
+    for key in play.nodes:
         if not key.below and not _ends(key.move):
             all_shown = False
         elif not reaches(key, 2 * stipulation.moves - 1) and key.text not in lines:
@@ -357,10 +341,9 @@ def _ends(move: PlayedMove) -> bool:
 
 def _judge_duals(judgement: Judgement, stipulation: Stipulation, play: Phase) -> None:
     if stipulation.play is Play.HELP:
-        lines = [line for line in play.solutions if isinstance(line, HelpLine)]
-        duals = list(late_partings(lines))
+        duals = list(late_partings(play.help_lines))
     else:
-        keys = _nodes(play)
+        keys = play.nodes
         if any(not key.below and not _ends(key.move) for key in keys):
             judgement.find(Weight.NOTE, "duals not shown: they need Variation")
             return
@@ -443,7 +426,7 @@ def _find_duals(judgement: Judgement, where: str, duals: list[Dual]) -> None:
 
 
 def _judge_set_play(judgement: Judgement, item: SoundItem, play: Phase) -> None:
-    phase = _phase(item, PhaseKind.SET)
+    phase = item.phase(PhaseKind.SET)
     if phase is None or (phase.total is None and phase.is_possible):
         return
     if phase.total is None:
@@ -453,15 +436,15 @@ def _judge_set_play(judgement: Judgement, item: SoundItem, play: Phase) -> None:
     least = "at least " if phase.total.stopped else ""
     if item.stipulation.play is Play.HELP:
         text = f"set play: {least}{counted(phase.total.count, 'solution')}"
-        judgement.find_in_solutions(Weight.NOTE, text, _texts(phase))
+        judgement.find_in_solutions(Weight.NOTE, text, phase.texts)
         return
-    provided = _nodes(phase)
+    provided = phase.nodes
     choices = sum(len(node.below) > 1 for node in provided)
     text = f"set play: {least}{counted(len(provided), 'move')} of Black provided for"
     if choices:
         text += f", {choices} with a choice"
     judgement.find_in_solutions(Weight.NOTE, text, tuple(map(_with_continuations, provided)))
-    keys = _nodes(play)
+    keys = play.nodes
     if phase.total.stopped or not any(key.below for key in keys):
         return
     unprovided = _unprovided_checks(provided, keys)

@@ -12,7 +12,7 @@ from contextlib import contextmanager, redirect_stderr
 from dataclasses import dataclass, replace
 from functools import partial
 from pathlib import Path
-from typing import NamedTuple, Optional, TextIO
+from typing import NamedTuple, NoReturn, Optional, TextIO
 
 from pops_companions import files
 from pops_companions.chess.stipulation import Play
@@ -21,6 +21,7 @@ from pops_companions.commands import many, many_options
 from pops_companions.input.given import GivenProblem
 from pops_companions.input.pieces import cut
 from pops_companions.input.writing import text_of_problems
+from pops_companions.many.identity import Known
 from pops_companions.many.journal import is_begun
 from pops_companions.many.program import RunError
 from pops_companions.many.tries_program import TriesProgram
@@ -30,6 +31,7 @@ from pops_companions.report.tries import TriesItem
 from pops_companions.review.posing import posed_problems
 from pops_companions.review.reading import tries_of_text
 from pops_companions.review.work_folder import WorkFolder
+from pops_companions.sheet.boards import are_possible
 from pops_companions.sheet.entries import boards_of
 
 
@@ -76,9 +78,12 @@ class _Wanted(NamedTuple):
     text: bytes
 
     def has(self, item: TriesItem) -> bool:
-        """Returns whether an item asks for the same, on the same board if it shows one."""
-        is_asked = item.stipulation == self.problem.stipulation
-        return is_asked and item.board in (None, self.board)
+        """Returns whether an item asks for the same, on the same board if it shows one, and its men
+        stand where its moves begin.
+        """
+        if item.stipulation != self.problem.stipulation or item.board not in (None, self.board):
+            return False
+        return self.board is None or are_possible(self.board.men, item)
 
 
 class Work:
@@ -99,8 +104,21 @@ class Work:
 
     def begin(self, text: bytes, resume: bool) -> None:
         """Makes the folder for an input, or takes up that of a run that was stopped."""
-        programs = {"pops": self._runs.pops, "pops-tries": self._runs.tries}
+        tries = self._runs.tries
+        programs = {"pops": Known(self._runs.pops), "pops-tries": Known(tries) if tries else None}
         self.folder.begin(text, programs, resume)
+
+    def refuse_changed(self) -> None:
+        """Ends the run where a program was changed meanwhile."""
+        program = self.folder.changed
+        if program is not None:
+            self._drop(program)
+
+    def _drop(self, program: str) -> NoReturn:
+        """Ends the run, of which nothing is kept: its results may be of two programs."""
+        self.folder.remove()
+        message = f"{program} was changed during the run: nothing is kept, run it again"
+        raise CommandError(Status.UNFINISHED, message)
 
     @contextmanager
     def read(self) -> Iterator[None]:
@@ -164,6 +182,8 @@ class Work:
             self.folder.seal(report)
         except many.StoppedError:
             raise KeyboardInterrupt from None
+        except many.ChangedError as error:
+            self._drop(error.program)
         except CommandError as error:
             if error.status == Status.UNFINISHED and report.is_file():
                 self.is_finished = False

@@ -1,16 +1,17 @@
-"""A report of which only the heads are kept in memory; its problems are read again one by one."""
+"""A report of whose problems little is kept in memory; they are read again one by one."""
 
 import tempfile
+from array import array
 from collections.abc import Callable, Iterator
 from contextlib import ExitStack, contextmanager
-from dataclasses import replace
 from typing import BinaryIO, NoReturn, Optional, cast
 
 from pops_companions import command
 from pops_companions.command import CommandError, Status
-from pops_companions.report.items import Item, SoundItem
+from pops_companions.report.items import Item
 from pops_companions.report.reader import ReportError, read_report
 from pops_companions.report.source import items_of_report
+from pops_companions.review.matching import Heads
 from pops_companions.review.reading import refused_as_device
 
 _BEGIN = b"problem "
@@ -21,19 +22,16 @@ Told = Callable[[int, int], None]
 class KeptReport:
     """A whole report, in a file that can be read twice."""
 
-    def __init__(self, name: str, source: BinaryIO, heads: list[Item]):
+    def __init__(self, name: str, source: BinaryIO, heads: Heads):
         self._name = name
         self._source = source
-        # The items without their solutions.
         self.heads = heads
-        self._numbers = {id(head): place for place, head in enumerate(heads)}
-        self._starts = list(_starts(source))
+        self._starts = array("q", _starts(source))
         if len(self._starts) != len(heads) + 1:
             self._refuse_changed()
 
-    def text(self, head: Item) -> bytes:
-        """Returns the lines of an item, by its head."""
-        place = self._numbers[id(head)]
+    def text(self, place: int) -> bytes:
+        """Returns the lines of the item in a place."""
         start, end = self._starts[place : place + 2]
         self._source.seek(start)
         return self._source.read(end - start)
@@ -75,9 +73,9 @@ def kept_report(
             source = copy
         size = source.seek(0, 2)
         source.seek(0)
-        heads: list[Item] = []
+        heads = Heads()
         with refused_as_device():
             for item in items_of_report(companion, name, source, encoding):
-                heads.append(replace(item, phases=()) if isinstance(item, SoundItem) else item)
+                heads.add(item)
                 told(source.tell(), size)
         yield KeptReport(name, source, heads)

@@ -6,6 +6,7 @@ again. What isn't surely judged alike is left to the reader of reports.
 
 from collections import Counter
 from collections.abc import Iterator
+from functools import lru_cache
 from typing import NamedTuple, Optional
 
 from pops_companions.report import lines
@@ -19,6 +20,8 @@ from pops_companions.show.twins import label_and_title
 # The most bytes that a problem has after its board, and the most texts of these that are kept.
 _LONGEST = 512
 _MOST = 8192
+# What the lines of a board have beside its men.
+_NO_MEN = b".12345678 \n"
 
 
 class _Known(NamedTuple):
@@ -29,15 +32,24 @@ class _Known(NamedTuple):
     below: str
 
 
-class _One(NamedTuple):
-    """A problem of which all is known, and where it begins and ends."""
+class _Name(NamedTuple):
+    """A title or an author as text, and whether it is in the encoding."""
 
-    start: int
+    text: str
+    is_text: bool
+
+
+_NO_NAME = _Name("", True)
+
+
+class _One(NamedTuple):
+    """A problem of which all is known, and where it ends."""
+
     end: int
     number: int
     known: _Known
-    title: bytes
-    author: bytes
+    title: _Name
+    author: _Name
 
 
 class Like(NamedTuple):
@@ -50,6 +62,18 @@ class Like(NamedTuple):
     texts: list[bytes]
     verdicts: "Counter[str]"
     undecodable: list[int]
+
+
+@lru_cache(maxsize=_MOST)
+def _are_usual(men: bytes) -> bool:
+    """Returns whether nothing is to be said of these men, each by its letter."""
+    return has_usual_men(men.decode("ascii"))
+
+
+def _text_of(one: _One) -> bytes:
+    name = joined_name(one.known.asked, printable(one.title.text), printable(one.author.text))
+    text = f"problem {one.number}: {one.known.verdict}: {name}\n{one.known.below}"
+    return text.encode("utf-8", "replace")
 
 
 class LikeProblems:
@@ -72,12 +96,9 @@ class LikeProblems:
         if found and found[-1].end < len(text) and not self._apart:
             del found[-1]
         verdicts = Counter([one.known.verdict for one in found])
-        names = self._encoding
-        undecodable = [
-            one.number for one in found if not (is_text(one.title, names) and is_text(one.author, names))
-        ]
+        undecodable = [it.number for it in found if not (it.title.is_text and it.author.is_text)]
         end, last = (found[-1].end, found[-1].number) if found else (at, last)
-        return Like(end, last, [self._text_of(one) for one in found], verdicts, undecodable)
+        return Like(end, last, list(map(_text_of, found)), verdicts, undecodable)
 
     def _known_from(self, text: bytes, at: int, last: int) -> Iterator[_One]:
         while (one := self._one_at(text, at)) is not None and one.number == last + 1:
@@ -89,18 +110,18 @@ class LikeProblems:
         end = text.find(lines.ITEM_END, at) + len(lines.ITEM_END)
         head = lines.HEAD.match(text, at, end)
         known = None if head is None else self._known.get(text[head.end() : end])
-        if head is None or known is None or not has_usual_men(head[4].decode("ascii")):
+        if head is None or known is None or not _are_usual(head[4].translate(None, _NO_MEN)):
             return None
-        title = head[2] or b""
-        if not self._apart and label_and_title(shown(title, self._encoding))[1].text:
+        title, author = self._name(head[2]), self._name(head[3])
+        if not self._apart and label_and_title(title.text)[1].text:
             return None
-        return _One(at, end, int(head[1]), known, title, head[3] or b"")
+        return _One(end, int(head[1]), known, title, author)
 
-    def _text_of(self, one: _One) -> bytes:
-        names = [printable(shown(it, self._encoding)) for it in (one.title, one.author)]
-        name = joined_name(one.known.asked, *names)
-        text = f"problem {one.number}: {one.known.verdict}: {name}\n{one.known.below}"
-        return text.encode("utf-8", "replace")
+    def _name(self, text: Optional[bytes]) -> _Name:
+        """Returns a title or an author."""
+        if not text:
+            return _NO_NAME
+        return _Name(shown(text, self._encoding), is_text(text, self._encoding))
 
     def end_of_others(self, text: bytes, at: int) -> int:
         """Returns where the next problem begins, after the one at a place, of which all is known."""

@@ -1,45 +1,55 @@
 """Which problem of one report is which of another, also where the numbers moved."""
 
-from collections.abc import Callable, Hashable, Sequence
-from dataclasses import dataclass
-from typing import Optional
+from array import array
+from collections.abc import Callable, Hashable, Iterator
+from itertools import groupby
+from typing import NamedTuple, Optional
 
 from pops_companions.report.items import FaultyItem, Item, SoundItem
 
+# In place of the checksum of what a problem lacks, and of the place of a problem that isn't found.
+_NOTHING = 0
+_NOWHERE = -1
 
-@dataclass(frozen=True)
-class Pair:
-    """A problem in both reports, or in one alone."""
-
-    old: Optional[Item]
-    new: Optional[Item]
+_MayBeOne = Callable[[int, int], bool]
 
 
-Key = Callable[[Item], Optional[Hashable]]
-Places = dict[Hashable, list[int]]
+class Places(NamedTuple):
+    """The places of a problem in both reports, or in one alone."""
+
+    old: Optional[int]
+    new: Optional[int]
 
 
-def pairs_of(old: Sequence[Item], new: Sequence[Item]) -> list[Pair]:
-    """Returns the problems of both reports, each once, in the order of the new report. Problems
-    that only the old report has keep their places.
+class Heads:
+    """What is kept of a report's problems to find them in another one: some checksums of each.
 
-    Problems with the same title, author, board, stipulation and condition are paired first, the
-    ones with the same number before others. Then follow problems with a title and author that no
-    other has, then with a board that no other has. The rest is paired by place, right after or
-    right before a pair, unless both title and board differ.
+    They are equal within this process alone. A faulty problem has none.
     """
-    matching = _Matching(old, new)
-    matching.by_number(_whole)
-    matching.in_order(_whole)
-    matching.unique(_names)
-    matching.unique(_position)
-    matching.by_place(lambda one, other: _is_faulty(one) and _is_faulty(other))
-    matching.by_place(_may_be_one)
-    return matching.pairs
+
+    def __init__(self) -> None:
+        # What each is of: title, author, board, stipulation and condition; title and author; the title;
+        # the board.
+        self.wholes, self.names = array("q"), array("q")
+        self.titles, self.boards = array("q"), array("q")
+
+    def add(self, item: Item) -> None:
+        """Adds the next problem."""
+        self.wholes.append(_sum(_whole(item)))
+        self.names.append(_sum(_names(item)))
+        self.titles.append(_sum(item.title if isinstance(item, SoundItem) else None))
+        self.boards.append(_sum(item.board if isinstance(item, SoundItem) else None))
+
+    def is_faulty(self, place: int) -> bool:
+        """Returns whether the problem in a place is faulty."""
+        return self.wholes[place] == _NOTHING
+
+    def __len__(self) -> int:
+        return len(self.wholes)
 
 
-def _is_faulty(item: Item) -> bool:
-    return isinstance(item, FaultyItem)
+def _sum(key: Optional[Hashable]) -> int:
+    return _NOTHING if key is None else hash(key) or 1
 
 
 def _whole(item: Item) -> Optional[Hashable]:
@@ -54,93 +64,111 @@ def _names(item: Item) -> Optional[Hashable]:
     return item.title, item.author
 
 
-def _position(item: Item) -> Optional[Hashable]:
-    return item.board if isinstance(item, SoundItem) else None
+class Pairs:
+    """The problems of both reports, each once, in the order of the new report. Problems that only the
+    old report has keep their places.
 
+    Problems with the same title, author, board, stipulation and condition are paired first, the
+    ones with the same number before others. Then follow problems with a title and author that no
+    other has, then with a board that no other has. The rest is paired by place, right after or
+    right before a pair, unless both title and board differ.
+    """
 
-def _may_be_one(one: Item, other: Item) -> bool:
-    """Returns whether title and board don't both differ."""
-    if isinstance(one, FaultyItem) or isinstance(other, FaultyItem):
-        return True
-    titles_differ = None not in (one.title, other.title) and one.title != other.title
-    boards_differ = None not in (one.board, other.board) and one.board != other.board
-    return not (titles_differ and boards_differ)
-
-
-class _Matching:
-    """The places of problems that belong together, as far as they are found."""
-
-    def __init__(self, old: Sequence[Item], new: Sequence[Item]):
+    def __init__(self, old: Heads, new: Heads):
         self._old = old
         self._new = new
-        self._to_new: dict[int, int] = {}
-        self._to_old: dict[int, int] = {}
+        self._to_new = array("q", [_NOWHERE]) * len(old)
+        self._to_old = array("q", [_NOWHERE]) * len(new)
+        self._by_number()
+        self._in_order()
+        self._unique(old.names, new.names)
+        self._unique(old.boards, new.boards)
+        self._by_place(lambda one, other: old.is_faulty(one) and new.is_faulty(other))
+        self._by_place(self._may_be_one)
 
     def _pair(self, old: int, new: int) -> None:
         self._to_new[old] = new
         self._to_old[new] = old
 
-    def by_number(self, key: Key) -> None:
-        """Pairs those at the same place that have the same key."""
-        for place, (old, new) in enumerate(zip(self._old, self._new)):
-            if key(old) is not None and key(old) == key(new):
+    def _by_number(self) -> None:
+        """Pairs whole problems at the same place."""
+        for place, (old, new) in enumerate(zip(self._old.wholes, self._new.wholes)):
+            if old == new != _NOTHING:
                 self._pair(place, place)
 
-    @staticmethod
-    def _left(items: Sequence[Item], taken: dict[int, int], key: Key) -> Places:
-        """Returns the places of the items that are left over, by their keys."""
-        places: Places = {}
-        for place, item in enumerate(items):
-            if place not in taken and key(item) is not None:
-                places.setdefault(key(item), []).append(place)
-        return places
+    def _alike(self, old: "array[int]", new: "array[int]") -> Iterator[tuple[list[int], list[int]]]:
+        """Yields the places in both reports of all that are left over with the same checksum."""
+        olds, news = _groups(old, self._to_new), _groups(new, self._to_old)
+        one, other = next(olds, None), next(news, None)
+        while one is not None and other is not None:
+            if one[0] == other[0]:
+                yield one[1], other[1]
+            is_one_less = one[0] <= other[0]
+            if one[0] >= other[0]:
+                other = next(news, None)
+            if is_one_less:
+                one = next(olds, None)
 
-    def in_order(self, key: Key) -> None:
-        """Pairs problems with the same key in their order."""
-        new_places = self._left(self._new, self._to_old, key)
-        for one, places in self._left(self._old, self._to_new, key).items():
-            for old, new in zip(places, new_places.get(one, [])):
+    def _in_order(self) -> None:
+        """Pairs whole problems in their order."""
+        for olds, news in self._alike(self._old.wholes, self._new.wholes):
+            for old, new in zip(olds, news):
                 self._pair(old, new)
 
-    def unique(self, key: Key) -> None:
-        """Pairs those whose key no other of those left over has."""
-        new_places = self._left(self._new, self._to_old, key)
-        for one, places in self._left(self._old, self._to_new, key).items():
-            if len(places) == 1 and len(new_places.get(one, [])) == 1:
-                self._pair(places[0], new_places[one][0])
+    def _unique(self, old: "array[int]", new: "array[int]") -> None:
+        """Pairs problems whose checksum no other of the ones left over has."""
+        for olds, news in self._alike(old, new):
+            if len(olds) == len(news) == 1:
+                self._pair(olds[0], news[0])
 
-    def by_place(self, may_be_one: Callable[[Item, Item], bool]) -> None:
-        """Pairs the neighbours of those that belong together, forwards, then backwards."""
+    def _by_place(self, may_be_one: _MayBeOne) -> None:
+        """Pairs the neighbours of problems that belong together, forwards, then backwards."""
         for old in range(len(self._old)):
-            new = 0 if old == 0 else self._to_new.get(old - 1, len(self._new)) + 1
-            self._pair_if_left(old, new, may_be_one)
+            before = self._to_new[old - 1] if old else _NOWHERE
+            if old == 0 or before != _NOWHERE:
+                self._pair_if_left(old, before + 1, may_be_one)
         for old in reversed(range(len(self._old))):
-            last = old == len(self._old) - 1
-            new = (len(self._new) if last else self._to_new.get(old + 1, 0)) - 1
-            self._pair_if_left(old, new, may_be_one)
+            is_last = old == len(self._old) - 1
+            after = len(self._new) if is_last else self._to_new[old + 1]
+            self._pair_if_left(old, after - 1, may_be_one)
 
-    def _pair_if_left(self, old: int, new: int, may_be_one: Callable[[Item, Item], bool]) -> None:
-        if old in self._to_new or new in self._to_old or not 0 <= new < len(self._new):
+    def _pair_if_left(self, old: int, new: int, may_be_one: _MayBeOne) -> None:
+        if not 0 <= new < len(self._new) or self._to_new[old] != _NOWHERE:
             return
-        if may_be_one(self._old[old], self._new[new]):
+        if self._to_old[new] == _NOWHERE and may_be_one(old, new):
             self._pair(old, new)
 
-    @property
-    def pairs(self) -> list[Pair]:
-        pairs: list[Pair] = []
-        next_old = 0
-        for place, item in enumerate(self._new):
-            old = self._to_old.get(place)
-            if old is not None:
-                while next_old < old:
-                    self._add_lost(pairs, next_old)
-                    next_old += 1
-                next_old = max(next_old, old + 1)
-            pairs.append(Pair(None if old is None else self._old[old], item))
-        for place in range(next_old, len(self._old)):
-            self._add_lost(pairs, place)
-        return pairs
+    def _may_be_one(self, one: int, other: int) -> bool:
+        """Returns whether title and board don't both differ."""
+        old, new = self._old, self._new
+        if old.is_faulty(one) or new.is_faulty(other):
+            return True
+        titles, boards = (old.titles[one], new.titles[other]), (old.boards[one], new.boards[other])
+        return not all(_NOTHING not in it and it[0] != it[1] for it in (titles, boards))
 
-    def _add_lost(self, pairs: list[Pair], place: int) -> None:
-        if place not in self._to_new:
-            pairs.append(Pair(self._old[place], None))
+    def __len__(self) -> int:
+        return len(self._new) + self._to_new.count(_NOWHERE)
+
+    def __iter__(self) -> Iterator[Places]:
+        next_old = 0
+        for new, old in enumerate(self._to_old):
+            if old != _NOWHERE:
+                yield from self._lost(next_old, old)
+                next_old = max(next_old, old + 1)
+            yield Places(None if old == _NOWHERE else old, new)
+        yield from self._lost(next_old, len(self._old))
+
+    def _lost(self, begin: int, end: int) -> Iterator[Places]:
+        """Yields the problems between two places that only the old report has."""
+        for old in range(begin, end):
+            if self._to_new[old] == _NOWHERE:
+                yield Places(old, None)
+
+
+def _groups(sums: "array[int]", taken: "array[int]") -> Iterator[tuple[int, list[int]]]:
+    """Yields each checksum of the problems that are left over, with their places; the least one first.
+    """
+    left = [place for place, one in enumerate(sums) if one != _NOTHING and taken[place] == _NOWHERE]
+    left.sort(key=sums.__getitem__)
+    for one, places in groupby(left, sums.__getitem__):
+        yield one, list(places)

@@ -70,13 +70,18 @@ def _field(king: Square) -> Iterator[Square]:
 
 def mates_of(men: Men, lines: Iterable[HelpLine], mated: Colour) -> Iterator[Mate]:
     """Yields the mates that lines of help play end in; none of a line of other men."""
+    # (many lines end in the same position)
+    known: dict[frozenset[tuple[Square, Man]], Optional[Mate]] = {}
     for line in lines:
         if line.moves[-1].mark is not Mark.MATE:
             continue
         last = men
         for move in line.moves:
             last = after(last, move) if move.origin in last else {}
-        mate = mate_of(last, mated)
+        position = frozenset(last.items())
+        if position not in known:
+            known[position] = mate_of(last, mated)
+        mate = known[position]
         if mate is not None:
             yield mate
 
@@ -86,11 +91,11 @@ def keywords_of(mates: Iterable[Mate]) -> list[str]:
 
     Mates that aren't pure have no names, and make no echoes: after one, no other is looked at.
     """
-    pure: list[Mate] = []
+    pure: dict[Mate, None] = {}
     for mate in mates:
         if not mate.name:
             return []
-        pure.append(mate)
+        pure[mate] = None
     if not pure:
         return []
     names = {mate.name for mate in pure}
@@ -124,13 +129,8 @@ def mates_in(item: SoundItem, men: Men) -> list[str]:
     is_help_mate = (item.stipulation.play, item.stipulation.goal) == (Play.HELP, Goal.MATE)
     if not is_help_mate or item.condition is not None or not men:
         return []
-    lines = [
-        line
-        for phase in item.phases or ()
-        if phase.kind is PhaseKind.PLAY
-        for line in phase.solutions
-        if isinstance(line, HelpLine)
-    ]
+    play = item.phase(PhaseKind.PLAY)
+    lines = [] if play is None else play.help_lines
     return keywords_of(mates_of(men, lines, Colour.BLACK))
 
 

@@ -28,8 +28,10 @@ def described(item: Optional[AnyItem], encoding: str, given: Optional[GivenProbl
 
 def joined_name(asked: str, title: str, author: str) -> str:
     """Returns a problem's name: `#5, Excelsior (Sam Loyd)`, without a title `#5 (Sam Loyd)`."""
-    name = ", ".join(filter(None, (asked, title)))
-    return " ".join(filter(None, (name, f"({author})" if author else "")))
+    name = f"{asked}, {title}" if asked and title else asked or title
+    if not author:
+        return name
+    return f"{name} ({author})" if name else f"({author})"
 
 
 def counted(number: int, word: str) -> str:

@@ -7,9 +7,9 @@ from typing import Optional
 
 from pops_companions.chess.stipulation import Condition, Play, Stipulation
 from pops_companions.input.given import GivenProblem
-from pops_companions.input.reading import Section
+from pops_companions.input.reading import MOST_MOVES, Section
 from pops_companions.input.words import is_short_for
-from pops_companions.report.items import AnyItem, Board, HelpLine, PhaseKind, SoundItem
+from pops_companions.report.items import AnyItem, Board, PhaseKind, SoundItem
 
 _OPTIONS_LEFT_OUT = ("setplay", "variation")
 _TITLE = re.compile(rb"(\S+) of problem ([1-9][0-9]{0,8})")
@@ -23,8 +23,10 @@ def shorter(stipulation: Stipulation) -> list[Stipulation]:
     """Returns the stipulations that must have no solution where this one is to have no short one.
 
     In battle play the next shorter one holds all shorter ones. Help play shows lines of one length
-    alone, so each is asked for.
+    alone, so all shorter ones are posed. Returns none for a stipulation that is too long for pops.
     """
+    if stipulation.moves + stipulation.half_more > MOST_MOVES:
+        return []
     if stipulation.play is not Play.HELP:
         moves = stipulation.moves - 1
         return [replace(stipulation, moves=moves)] if moves > 0 else []
@@ -117,10 +119,5 @@ class ShortAnswers:
 
 def _first_lines(item: SoundItem) -> Optional[tuple[str, ...]]:
     """Returns the lines or keys of the play; None where it wasn't solved."""
-    for phase in item.phases or ():
-        if phase.kind is PhaseKind.PLAY:
-            return tuple(
-                solution.text if isinstance(solution, HelpLine) else solution.text.strip()
-                for solution in phase.solutions
-            )
-    return None
+    play = item.phase(PhaseKind.PLAY)
+    return None if play is None else play.texts

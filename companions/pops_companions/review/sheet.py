@@ -14,20 +14,11 @@ from pops_companions.review.judging import Judgement
 from pops_companions.sheet.languages import LANGUAGES, marked_as
 from pops_companions.sheet.solution import Solution, shortened
 from pops_companions.show import diagram
+from pops_companions.show.page import framed
 from pops_companions.show.titles import printable, shown
+from pops_companions.stored import stored_text
 
-_STYLE = """
-.name { width: 40%; }
-.why { white-space: normal; width: 30%; }
-body { max-width: 70em; }
-summary { cursor: pointer; }
-details pre { margin-top: .3em; }
-.origin { font-size: .9em; margin: 0; }
-.verdict { font-size: 1.1em; margin: 0 0 .3em; }
-.sound { color: #060; }
-.unsound, .faulty { color: #900; }
-@media print { details:not([open]) { display: none; } }
-"""
+_STYLE = stored_text("review/sheet.css")
 _ENGLISH = LANGUAGES["en"]
 _MARKS = marked_as(_ENGLISH, {})
 # What the table says of a problem, of its twins one after the other.
@@ -63,23 +54,10 @@ def sheet(judged: Iterable[JudgedGroup], tally: Tally, heading: str, evidence: E
     for one in judged:
         rows.append(_row(one, evidence))
         articles.append(_article(one, evidence))
-    title = html.escape(printable(heading))
-    return "".join(
-        [
-            '<!DOCTYPE html>\n<html lang="en">\n<head>\n<meta charset="utf-8"/>\n',
-            '<meta name="viewport" content="width=device-width"/>\n',
-            f"<title>{title}</title>\n<style>{STYLE}{_STYLE}</style>\n</head>\n<body>\n",
-            diagram.shapes(),
-            f"<h1>{title}</h1>\n<p>{tally.text}</p>\n",
-            "<table>\n<tr>",
-            *(f"<th>{name}</th>" for name in ("No.", "Problem", "Verdict", *_COLUMNS, "Why")),
-            "</tr>\n",
-            *rows,
-            "</table>\n",
-            *articles,
-            "</body>\n</html>\n",
-        ]
-    )
+    names = ("No.", "Problem", "Verdict", *_COLUMNS, "Why")
+    head = f"<tr>{''.join(f'<th>{name}</th>' for name in names)}</tr>\n"
+    parts = [f"<p>{tally.text}</p>\n<table>\n{head}", *rows, "</table>\n", *articles]
+    return framed(html.escape(printable(heading)), [STYLE, _STYLE], parts)
 
 
 def _id(one: JudgedGroup) -> str:

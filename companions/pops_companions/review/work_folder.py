@@ -2,7 +2,8 @@
 
 It has a file that marks it as this program's own, with checksums of the input and of the programs that
 are run. Nothing of a folder without that mark is read, and only files with names of its own are removed.
-What it keeps has checksums with that of the mark: what was kept for another isn't taken.
+What it keeps has checksums with that of the mark and with the file's name: what was kept for another
+isn't taken.
 """
 
 import fcntl
@@ -17,8 +18,9 @@ from contextlib import suppress
 from pathlib import Path
 from typing import NoReturn, Optional
 
-from pops_companions import files, places
+from pops_companions import files
 from pops_companions.command import CommandError, Status
+from pops_companions.many.identity import Known
 
 _MARK = "pops-judge.mark"
 _HEAD = "pops-judge work 3"
@@ -32,7 +34,7 @@ _FOREIGN = "isn't a folder of pops-judge: remove it, or name another sheet"
 _CHANGED = "has a mark that was changed, or is of another version: remove it"
 
 # The programs that are run, by their names.
-Programs = Mapping[str, Optional[str]]
+Programs = Mapping[str, Optional[Known]]
 
 
 def _sum_of(text: bytes) -> bytes:
@@ -47,12 +49,11 @@ def _mark_of(text: bytes, programs: Programs) -> bytes:
     return mark + _sum_of(mark)
 
 
-def _described(program: Optional[str]) -> str:
+def _described(program: Optional[Known]) -> str:
     """Returns a program's path with its version, which is another one once it is changed."""
     if program is None:
         return json.dumps([None, None])
-    path = os.path.realpath(program)
-    return json.dumps([path, places.fingerprint(path)])
+    return json.dumps([os.path.realpath(program.program), program.identity])
 
 
 def _difference(begun: list[str], now: list[str]) -> str:
@@ -78,6 +79,7 @@ class WorkFolder:
     def __init__(self, path: Path):
         self.path = path
         self._mark = b""
+        self._programs: Programs = {}
 
     def begin(self, text: bytes, programs: Programs, resume: bool) -> None:
         """Makes the folder for an input, or takes up that of a run that was stopped.
@@ -95,6 +97,7 @@ class WorkFolder:
             message = f"cannot write {error.filename}: {error.strerror}"
             raise CommandError(Status.DEVICE, message) from None
         self._refuse_foreign()
+        self._programs = programs
         mark, self._mark = self.path / _MARK, _mark_of(text, programs)
         if mark.exists():
             if not resume:
@@ -156,6 +159,12 @@ class WorkFolder:
     def _refuse(self, reason: str) -> NoReturn:
         raise CommandError(Status.USAGE, f"{self.path} {reason}")
 
+    @property
+    def changed(self) -> Optional[str]:
+        """A program that was changed since the run began."""
+        programs = filter(None, self._programs.values())
+        return next((it.program for it in programs if it.is_changed), None)
+
     @staticmethod
     def write(path: Path, text: bytes) -> None:
         """Writes a file of the folder, completely or not at all."""
@@ -164,10 +173,11 @@ class WorkFolder:
 
     def keep(self, path: Path, text: bytes) -> None:
         """Writes a text with its checksum in front, for `kept`."""
-        self.write(path, self._sum_of(text) + text)
+        self.write(path, self._sum_of(path, text) + text)
 
-    def _sum_of(self, text: bytes) -> bytes:
-        return _sum_of(self._mark + text)
+    def _sum_of(self, path: Path, text: bytes) -> bytes:
+        """Returns the checksum of a text, which isn't that of the same text in another file."""
+        return _sum_of(self._mark + os.fsencode(path.name) + b"\n" + text)
 
     def kept(self, path: Path) -> Optional[bytes]:
         """Returns a text that `keep` wrote; None if there is none, or another."""
@@ -175,16 +185,17 @@ class WorkFolder:
             head, _, text = path.read_bytes().partition(b"\n")
         except FileNotFoundError:
             return None
-        return text if head + b"\n" == self._sum_of(text) else None
+        return text if head + b"\n" == self._sum_of(path, text) else None
 
     def seal(self, report: Path) -> None:
         """Notes that a report is whole, for `is_sealed`."""
-        self.write(Path(f"{report}{_SUM}"), self._sum_of(report.read_bytes()))
+        self.write(Path(f"{report}{_SUM}"), self._sum_of(report, report.read_bytes()))
 
     def is_sealed(self, report: Path) -> bool:
         """Returns whether a report is the one that was noted as whole."""
         try:
-            return Path(f"{report}{_SUM}").read_bytes() == self._sum_of(report.read_bytes())
+            sealed = Path(f"{report}{_SUM}").read_bytes()
+            return sealed == self._sum_of(report, report.read_bytes())
         except FileNotFoundError:
             return False
 

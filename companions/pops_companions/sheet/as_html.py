@@ -11,32 +11,11 @@ from pops_companions.sheet.languages import FIGURES, Language, marked_as
 from pops_companions.sheet.sheet_words import WORDS
 from pops_companions.show import diagram
 from pops_companions.show.authors import joined
-from pops_companions.show.page import STYLE
+from pops_companions.show.page import STYLE, framed
 from pops_companions.show.titles import printable
+from pops_companions.stored import stored_text
 
-_STYLE = """
-@page { size: A4; margin: 14mm; }
-.line { margin: 0 0 0 calc(var(--level) * 1em + 1em); text-indent: -1em; }
-h3.block { margin-top: .4em; }
-.turned { display: inline-block; text-indent: 0; transform: rotate(180deg); }
-.index { columns: 16em auto; }
-.index p { margin: 0 0 0 1em; text-indent: -1em; }
-article { break-inside: avoid; }
-.note { font-style: italic; margin: 0; }
-.row { display: grid; gap: 1.5em; grid-template-columns: repeat(var(--per-row), minmax(0, 1fr)); }
-.row article { display: block; margin: 0; padding: 0; border: none; }
-@supports (grid-template-rows: subgrid) {
-  .row article { display: grid; grid-template-columns: minmax(0, 1fr);
-    grid-row: span 2; grid-template-rows: subgrid; row-gap: 0; }
-  .row header { align-self: end; }
-}
-.row .diagram { max-width: 17em; }
-.row .below { max-width: 16em; }
-.row .twin { margin: .1em 0 0 5.7%; }
-.after { break-before: page; columns: 20em auto; column-gap: 2em; }
-.after article { display: block; margin: 0 0 .8em; padding: 0; border: none; }
-@media (max-width: 36em) { .row { grid-template-columns: minmax(0, 1fr); } }
-"""
+_STYLE = stored_text("sheet/as_html.css")
 # A line of many moves may be broken after each.
 _BREAKS = {ord(sign): sign + "<wbr>" for sign in ",/"}
 
@@ -74,19 +53,9 @@ class _Page:
     per_row: Optional[int]
 
     def of(self, entries: list[Entry], title: str) -> str:
-        return "".join(
-            [
-                f'<!DOCTYPE html>\n<html lang="{self.language.code}">\n<head>\n',
-                '<meta charset="utf-8">\n',
-                '<meta name="viewport" content="width=device-width">\n',
-                f"<title>{title}</title>\n<style>{STYLE}{_STYLE}</style>\n</head>\n<body>\n",
-                diagram.shapes(),
-                f"<h1>{title}</h1>\n",
-                *(map(self._article, entries) if self.per_row is None else self._rows(entries)),
-                *self._index(entries),
-                "</body>\n</html>\n",
-            ]
-        )
+        shown = map(self._article, entries) if self.per_row is None else self._rows(entries)
+        parts = [*shown, *self._index(entries)]
+        return framed(title, [STYLE, _STYLE], parts, self.language.code)
 
     def _article(self, entry: Entry) -> str:
         head = "".join([*self._names(entry), *self._diagram(entry)])

@@ -6,7 +6,6 @@ from dataclasses import dataclass
 from typing import Optional
 
 from pops_companions.chess.attacks import Men
-from pops_companions.chess.men import Square
 from pops_companions.input.given import GivenProblem
 from pops_companions.input.pieces import cut
 from pops_companions.input.reading import read_piece
@@ -180,16 +179,10 @@ def boards_of(text: bytes) -> dict[int, Board]:
     """Returns the boards of an input's problems without a fault, also of those with NoBoard."""
     readings = ((piece.number, read_piece(text, piece)) for piece in cut(text))
     return {
-        number: board_of({square: placed.man for square, placed in reading.men.items()})
+        number: Board.of_men({square: placed.man for square, placed in reading.men.items()})
         for number, reading in readings
         if reading.number is None
     }
-
-
-def board_of(men: Men) -> Board:
-    """Returns the board of some men."""
-    letters = "".join(men[it].letter if it in men else "." for it in Square.of_diagram())
-    return Board(tuple(letters[place : place + 8] for place in range(0, 64, 8)))
 
 
 def index_of(entries: Iterable[Entry]) -> list[tuple[str, list[Entry]]]:

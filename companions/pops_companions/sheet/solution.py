@@ -9,7 +9,7 @@ from pops_companions.chess.attacks import Men
 from pops_companions.chess.men import Kind, Square
 from pops_companions.chess.stipulation import Condition
 from pops_companions.report.events import Menace
-from pops_companions.report.items import HelpLine, Node, Phase, PhaseKind, SoundItem, Total
+from pops_companions.report.items import Phase, PhaseKind, SoundItem, Total
 from pops_companions.report.moves import Mark, prefix
 from pops_companions.report.tries import FirstMove, TriesItem
 from pops_companions.sheet.boards import after, arrivals
@@ -87,11 +87,10 @@ class Solution:
 
     def blocks(self, item: SoundItem, tries: Optional[TriesItem]) -> list[Block]:
         """Returns the blocks of a problem, by its tries where they are known."""
-        phases = {phase.kind: phase for phase in item.phases or ()}
+        set_play, play = item.phase(PhaseKind.SET), item.phase(PhaseKind.PLAY)
         found: list[Block] = []
-        if PhaseKind.SET in phases and phases[PhaseKind.SET].solutions:
-            lines = self._phase(phases[PhaseKind.SET])
-            found.append(Block(self.language.set_play, lines))
+        if set_play is not None and set_play.solutions:
+            found.append(Block(self.language.set_play, self._phase(set_play)))
         if tries is not None and tries.total is not None:
             attempts = tuple(self._tries(tries))
             if attempts:
@@ -99,9 +98,8 @@ class Solution:
             keys = [line for it in tries.keys for line in self._first_move(it, "!")]
             keys += self._remark(tries.total)
             found.append(Block(self.language.solution, tuple(keys)))
-        elif PhaseKind.PLAY in phases:
-            lines = self._phase(phases[PhaseKind.PLAY])
-            found.append(Block(self.language.solution, lines))
+        elif play is not None:
+            found.append(Block(self.language.solution, self._phase(play)))
         return found
 
     def _tries(self, tries: TriesItem) -> Iterator[Line]:
@@ -157,13 +155,11 @@ class Solution:
         variations = Variations(self.condition)
         if not phase.is_possible:
             return (Line(self.language.impossible),)
-        helps = [it for it in phase.solutions if isinstance(it, HelpLine)]
-        nodes = [it for it in phase.solutions if isinstance(it, Node)]
-        lines = [variations.help_line(self.men, it) for it in helps]
+        lines = [variations.help_line(self.men, it) for it in phase.help_lines]
         if phase.kind is PhaseKind.SET:
-            lines += variations.defences(self.men, nodes)
+            lines += variations.defences(self.men, phase.nodes)
         else:
-            keys = (FirstMove(it.text, it.move, defences=tuple(it.below)) for it in nodes)
+            keys = (FirstMove(it.text, it.move, defences=tuple(it.below)) for it in phase.nodes)
             lines += [line for key in keys for line in self._first_move(key, "!")]
         return (*lines, *self._remark(phase.total))
 

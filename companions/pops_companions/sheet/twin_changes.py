@@ -6,7 +6,7 @@ from dataclasses import dataclass
 from typing import Optional
 
 from pops_companions.chess.attacks import Men
-from pops_companions.chess.men import Man, Square
+from pops_companions.chess.men import Changes, Man, Square
 from pops_companions.report.items import AnyItem, SoundItem
 from pops_companions.sheet.languages import MARKS, colour_mark
 from pops_companions.sheet.sheet_words import SheetWords
@@ -75,10 +75,11 @@ def _of_board(said: str, words: SheetWords) -> tuple[list[str], str]:
 
 def _of_men(before: Men, now: Men) -> Iterator[str]:
     """Yields how some men become others: exchanged, moved, in place of another, gone, new."""
-    gone = {square: man for square, man in before.items() if now.get(square) != man}
-    new = {square: man for square, man in now.items() if before.get(square) != man}
+    changes = Changes(before, now)
+    gone, new = changes.gone, changes.new
     yield from _exchanged(gone, new)
-    yield from _moved(gone, new)
+    for man, square, target in changes.moved():
+        yield f"{_shown(man, square)}→{target.name}"
     for square in [it for it in gone if it in new]:
         old, man = gone.pop(square), new.pop(square)
         colour = "" if old.colour is man.colour else colour_mark(man.colour)
@@ -99,15 +100,6 @@ def _exchanged(gone: dict[Square, Man], new: dict[Square, Man]) -> Iterator[str]
                 yield f"{_shown(gone[one], one)}↔{_shown(gone[other], other)}"
                 for square in (one, other):
                     del gone[square], new[square]
-
-
-def _moved(gone: dict[Square, Man], new: dict[Square, Man]) -> Iterator[str]:
-    """Yields the men that moved, and takes them out."""
-    for square, man in list(gone.items()):
-        target = next((it for it, other in new.items() if other == man), None)
-        if target is not None:
-            yield f"{_shown(man, square)}→{target.name}"
-            del gone[square], new[target]
 
 
 def _shown(man: Man, square: Square) -> str:

@@ -3,6 +3,7 @@
 import json
 import re
 from enum import Enum
+from functools import lru_cache
 from pathlib import Path
 from typing import Any, Optional, Union
 
@@ -182,54 +183,31 @@ def _move(move: PlayedMove) -> Json:
 
 def event_object(event: events.Event, encoding: str) -> Json:
     """Returns the object of an event."""
-    name = _EVENT_NAMES[type(event)]
-    return {"event": name, "problem": event.problem, **_said(event, encoding)}
-
-
-_EVENT_NAMES: dict[type[events.Event], str] = {
-    events.ProblemEvent: "problem",
-    events.FaultEvent: "fault",
-    events.HeadEvent: "head",
-    events.CheckedEvent: "checked",
-    events.PhaseEvent: "phase",
-    events.NotPossibleEvent: "not_possible",
-    events.LineEvent: "line",
-    events.NodeEvent: "node",
-    events.TotalEvent: "total",
-    events.NoTriesEvent: "no_tries",
-    events.FirstMoveEvent: "first_move",
-    events.MenaceEvent: "menace",
-    events.RefutationEvent: "refutation",
-    events.StalemateEvent: "stalemate",
-    events.TriesEvent: "tries",
-    events.TriesTotalEvent: "tries_total",
-    events.EndEvent: "end",
-}
-
-
-def _said(event: events.Event, encoding: str) -> Json:
-    if isinstance(event, events.FaultEvent):
-        return {"fault": _fault(event.fault)}
+    made: Json = {"event": _event_name(type(event).__name__)}
     if isinstance(event, events.HeadEvent):
-        return {**_names(event, None, encoding), **_head(event)}
-    if isinstance(event, events.MenaceEvent):
-        return {"menace": event.menace.value}
-    if isinstance(event, events.TriesTotalEvent):
-        return {"count": event.count}
-    if isinstance(event, events.EndEvent):
-        return {"unfinished": event.unfinished}
-    if isinstance(event, events.FirstMoveEvent):
-        return {"kind": event.kind.name.lower(), "text": event.text, "move": _move(event.move)}
-    if isinstance(event, events.RefutationEvent):
-        return {"text": event.text, "move": _move(event.move)}
-    if isinstance(event, (events.PhaseEvent, events.NotPossibleEvent)):
-        return {"phase": event.phase.value}
-    if isinstance(event, events.LineEvent):
-        return {"phase": event.phase.value, **_solution(event.line)}
-    if isinstance(event, events.NodeEvent):
-        place = {"phase": event.phase.value, "place": event.place.value, "level": event.level}
-        return {**place, "text": event.text, "move": _move(event.move)}
-    if isinstance(event, events.TotalEvent):
-        total = {"count": event.total.count, "stopped": event.total.stopped}
-        return {"phase": event.phase.value, **total}
-    return {}
+        names = _names(event, None, encoding)
+        return {**made, "problem": event.problem, **names, **_head(event)}
+    for name, value in vars(event).items():
+        made.update(_said(name, value))
+    return made
+
+
+@lru_cache(maxsize=None)
+def _event_name(kind: str) -> str:
+    """Returns what an object calls an event: `not_possible` for NotPossibleEvent."""
+    return "_".join(re.findall("[A-Z][a-z]+", kind)[:-1]).lower()
+
+
+def _said(name: str, value: object) -> Json:
+    """Returns what a field of an event says; a line and a total say several things."""
+    if isinstance(value, items.HelpLine):
+        return _solution(value)
+    if isinstance(value, items.Total):
+        return {"count": value.count, "stopped": value.stopped}
+    if isinstance(value, items.Fault):
+        return {name: _fault(value)}
+    if isinstance(value, PlayedMove):
+        return {name: _move(value)}
+    if isinstance(value, events.FirstMoveKind):
+        return {name: value.name.lower()}
+    return {name: value.value if isinstance(value, Enum) else value}

@@ -8,7 +8,7 @@ upside down.
 from collections.abc import Iterable, Mapping
 from html import escape
 
-from pops_companions.chess.men import Colour, Kind, Square
+from pops_companions.chess.men import LETTERS, Colour, Kind, Square
 from pops_companions.report.items import Board
 from pops_companions.show.men_shapes import men_shapes
 from pops_companions.show.titles import printable
@@ -23,7 +23,6 @@ WIDTH = HEIGHT = MARGIN + 8 * SIDE + 1
 
 # The fairy kinds, each with the kind that is turned upside down for it.
 UPSIDE_DOWN = {Kind.GRASSHOPPER: Kind.QUEEN, Kind.NIGHTRIDER: Kind.KNIGHT}
-_LETTERS = "".join(kind.value for kind in Kind)
 _FILLS = {
     Colour.WHITE: 'fill="#fff" color="#000"',
     Colour.BLACK: 'fill="#000" color="#fff"',
@@ -126,7 +125,7 @@ def _drawing(board: Board) -> str:
 
 def position_in_words(
     board: Board,
-    letters: str = _LETTERS,
+    letters: str = LETTERS,
     sides: tuple[str, str] = ("White", "Black"),
     no_men: str = "none",
 ) -> str:

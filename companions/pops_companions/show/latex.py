@@ -11,14 +11,7 @@ from pops_companions.show.titles import printable, shown
 from pops_companions.show.twins import Group, Twin
 
 _COLOURS = {Colour.WHITE: "w", Colour.BLACK: "s"}
-_UPRIGHT = {
-    Kind.KING: "K",
-    Kind.QUEEN: "D",
-    Kind.ROOK: "T",
-    Kind.BISHOP: "L",
-    Kind.KNIGHT: "S",
-    Kind.PAWN: "B",
-}
+_UPRIGHT = dict(zip(Kind, "KDTLSB"))
 KINDS = {**_UPRIGHT, **{kind: _UPRIGHT[upright] + "U" for kind, upright in UPSIDE_DOWN.items()}}
 _SPECIAL = {
     "\\": r"\textbackslash{}",

@@ -10,7 +10,6 @@ from pops_companions.report.items import (
     AnyItem,
     Fault,
     FaultyItem,
-    Node,
     Phase,
     PhaseKind,
     SoundItem,
@@ -19,42 +18,9 @@ from pops_companions.report.items import (
 from pops_companions.show import diagram
 from pops_companions.show.titles import printable, shown
 from pops_companions.show.twins import Group, Twin, groups
+from pops_companions.stored import stored_text
 
-STYLE = """
-body { font: 11pt/1.35 serif; margin: 1.5em auto; max-width: 60em; padding: 0 1em;
-  color: #000; background: #fff; overflow-wrap: anywhere; }
-h1 { font-size: 1.5em; font-weight: normal; border-bottom: 1px solid #000; }
-article { display: grid; grid-template-columns: minmax(0, 17em) minmax(0, 1fr); gap: 0 2em;
-  margin: 0 0 1.2em; padding-top: .8em; border-top: 1px solid #bbb; }
-h1 + article { border-top: none; }
-header, .below, .fault { break-inside: avoid; }
-h2 { font-size: 1em; margin: 0 0 .3em; }
-h2 a { color: inherit; text-decoration: none; }
-h2 a:hover, h2 a:focus { text-decoration: underline; }
-.title { margin: 0; }
-.author { font-style: italic; margin: 0 0 .3em; }
-.origin { margin: 0 0 .3em; font-size: .9em; }
-.twin + .twin { margin-top: 1em; }
-.twin .diagram { max-width: 13em; }
-.below { display: flex; justify-content: space-between; margin: 0 0 0 5.7%; }
-.stipulation { font-weight: bold; }
-.fairy, .without { font-size: .85em; margin: .2em 0 0 5.7%; color: #333; }
-.diagram { width: 100%; display: block; margin-top: .4em; }
-h3 { font-size: 1em; font-weight: normal; font-style: italic; margin: 0; }
-h3.label { font-weight: bold; font-style: normal; }
-.phase + .phase { margin-top: .8em; }
-pre { font: 9.5pt/1.35 monospace; margin: .1em 0; white-space: pre-wrap; }
-pre span { white-space: nowrap; }
-pre.many { columns: 17em auto; column-gap: 2em; }
-.total { margin: 0; font-size: .9em; color: #333; }
-.fault { font-weight: bold; margin: 0; }
-.unfinished { font-style: italic; margin: .5em 0 0; }
-@media print {
-  body { margin: 0; max-width: none; padding: 0; }
-  article { grid-template-columns: minmax(0, 13em) minmax(0, 1fr); }
-}
-@media (max-width: 36em) { article { grid-template-columns: minmax(0, 1fr); } }
-"""
+STYLE = stored_text("show/page.css")
 
 # More lines than this are set in columns, as far as the page is wide enough.
 _LINES_OF_A_COLUMN = 20
@@ -65,6 +31,19 @@ _MOVE = re.compile(r"[^\s-]+-\S+")
 
 def _safe(text: str) -> str:
     return html.escape(printable(text))
+
+
+def framed(
+    title: str, styles: Iterable[str], parts: Iterable[str], language: str = "en"
+) -> str:
+    """Returns a page of HTML with the shapes of the men: its title is also its heading."""
+    style = "".join(f"\n{it}" for it in styles)
+    head = (
+        f'<!DOCTYPE html>\n<html lang="{language}">\n<head>\n<meta charset="utf-8">\n'
+        '<meta name="viewport" content="width=device-width">\n'
+        f"<title>{title}</title>\n<style>{style}</style>\n</head>\n<body>\n"
+    )
+    return "".join([head, diagram.shapes(), f"<h1>{title}</h1>\n", *parts, "</body>\n</html>\n"])
 
 
 class Words:
@@ -115,18 +94,7 @@ class Page:
 
     def of(self, items: Iterable[AnyItem]) -> str:
         """Returns the page of a report's items."""
-        heading = _safe(self.heading)
-        parts = [
-            f'<!DOCTYPE html>\n<html lang="{self.words.code}">\n<head>\n<meta charset="utf-8">\n',
-            '<meta name="viewport" content="width=device-width">\n',
-            f"<title>{heading}</title>\n<style>{STYLE}</style>\n",
-            "</head>\n<body>\n",
-            diagram.shapes(),
-            f"<h1>{heading}</h1>\n",
-            *self._articles(items),
-            "</body>\n</html>\n",
-        ]
-        return "".join(parts)
+        return framed(_safe(self.heading), [STYLE], self._articles(items), self.words.code)
 
     def _articles(self, items: Iterable[AnyItem]) -> Iterator[str]:
         names: list[str] = []
@@ -189,8 +157,7 @@ class Page:
         if phase.kind is not PhaseKind.PLAY or phase.total is None or phase.total.stopped:
             return ""
         count = phase.total.count
-        is_of_keys = any(isinstance(solution, Node) for solution in phase.solutions)
-        if count == 0 or is_of_keys and count > 1:
+        if count == 0 or phase.nodes and count > 1:
             return f" <span>({self.words.found(count)})</span>"
         return ""
 

@@ -43,4 +43,5 @@ def other_lines(name: str, data: bytes, encoding: str) -> str:
 
 def printable(text: str) -> str:
     """Returns a text with U+FFFD for each character that pages and drawings may not hold."""
-    return _NO_CHARACTER.sub("\ufffd", text)
+    # (quicker than to look for each)
+    return text if text.isprintable() else _NO_CHARACTER.sub("\ufffd", text)

@@ -7,7 +7,7 @@ import re
 from collections.abc import Iterable, Iterator, Sequence
 from typing import NamedTuple, Optional
 
-from pops_companions.chess.men import Colour, Man, Square
+from pops_companions.chess.men import Changes
 from pops_companions.input.given import GivenProblem
 from pops_companions.report.items import AnyItem, Board, SoundItem
 from pops_companions.show.titles import shown
@@ -181,20 +181,8 @@ def _changes(item: AnyItem, first: AnyItem) -> tuple[str, bool]:
 
 
 def _changes_of_men(board: Board, first: Board) -> tuple[list[str], bool]:
-    now, before = board.men, first.men
-    gone = {square: man for square, man in before.items() if now.get(square) != man}
-    new = {square: man for square, man in now.items() if before.get(square) != man}
-    texts = []
-    for square, man in list(gone.items()):
-        moved = [other for other, it in new.items() if it == man]
-        if moved:
-            texts.append(f"{_shown(man, square)} to {moved[0].name}")
-            del gone[square], new[moved[0]]
-    texts.extend(f"without {_shown(man, square)}" for square, man in gone.items())
-    texts.extend(f"with {_shown(man, square)}" for square, man in new.items())
+    changes = Changes(first.men, board.men)
+    texts = [f"{man.on(square)} to {target.name}" for man, square, target in changes.moved()]
+    texts += [f"without {man.on(square)}" for square, man in changes.gone.items()]
+    texts += [f"with {man.on(square)}" for square, man in changes.new.items()]
     return texts, len(texts) > _MOST_CHANGES
-
-
-def _shown(man: Man, square: Square) -> str:
-    colour = "white" if man.colour is Colour.WHITE else "black"
-    return f"{colour} {man.kind.value}{square.name}"

@@ -20,8 +20,7 @@ use crate::occupancy::{Occupancy, occupancy_now, squares_seen};
 use crate::reach::reach_over;
 use crate::rules::Rules;
 use crate::words::pop_first;
-use chess_core::man::Gait;
-use chess_core::{Board, Colour, Kind, Square, Squares};
+use chess_core::{Board, Colour, Gait, Kind, Square, Squares};
 
 /// Returns the squares from which a man of this colour and kind could capture on `to`. For all but hoppers
 /// these are the squares that a man of the kind, of the other colour, reaches from `to`.

@@ -14,7 +14,7 @@ record IsLeft (men : List (Option Man)) (a : ℕ) (o : Option ℕ) (b : ℕ) (z 
   pub entered : is_of_colour (man_on men b) c ≡ true → is_square o b ≡ true
 
 module _ (men : List (Option Man)) (a : ℕ) (o : Option ℕ) (b : ℕ) (z : Man) (k : ℕ) (u : Option ℕ) (t : ℕ) (c : Colour) (i : IsLeft men a o b z u t c) where
-  -- a man of the other side takes its place
+  -- a man of the other side replaces it
   stands_left : (j : Kind) (q : ℕ) → (is_man (man_on men q) c j && (((not (is_square o q) && not (a == q)) && not (t == q)) && not (k == q)))
       ≡ is_man (man_on (stepped men a o b z k u t z) q) c j
   stands_left j q = elim (cases_eq q t) [

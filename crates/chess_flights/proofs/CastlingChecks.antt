@@ -79,14 +79,14 @@ module _ (men after : List (Option Man)) (b s k : ℕ) (free : Frees after men b
 abbrev is_lined_up : ℕ → ℕ → ℕ → ℕ → Bool
 is_lined_up a c h k = not (is_on_some straight_steps k h && is_on_some straight_steps k a) || (k == c || is_on_some straight_steps k c)
 
--- what hangs on the squares alone
-abbrev IsPlace : ℕ → ℕ → ℕ → Type 0
-IsPlace a c h = (is_corner c ≡ true) × (is_half h ≡ true) × (agree_below (is_lined_up a c h) (λ k. true) 64 ≡ true)
+-- what depends on the squares alone
+abbrev IsCastlingLine : ℕ → ℕ → ℕ → Type 0
+IsCastlingLine a c h = (is_corner c ≡ true) × (is_half h ≡ true) × (agree_below (is_lined_up a c h) (λ k. true) 64 ≡ true)
 
 -- king and rook castle: a king on a goes to t, the rook from c to h; what lies between them is empty
 module _ (men : List (Option Man)) (a t c h : ℕ) where
   abbrev Way : ℕ → ℕ → ℕ → ℕ → Type 0
-  Way i u d j = list_all (is_vacant men) (squares_between i d) ≡ true → IsPlace i d j × (man_on men u ≡ None) × (list_any (rides men d i) straight_steps ≡ true)
+  Way i u d j = list_all (is_vacant men) (squares_between i d) ≡ true → IsCastlingLine i d j × (man_on men u ≡ None) × (list_any (rides men d i) straight_steps ≡ true)
 
   at_squares : (i u d j : ℕ) → a ≡ i → t ≡ u → c ≡ d → h ≡ j → Way i u d j → Way a t c h
   at_squares i u d j from to rook half free = rw (from, to, rook, half) free
@@ -103,7 +103,7 @@ module _ (rule : RuleSet) (p : Position) (x : Man) (m : Move) (well : IsWellForm
   castle : (same_kind x.kind Pawn ≡ false) × IsCastle p m
   castle = castle_of rule p x m well is castling
 
-  the_way : IsPlace m.from (corner m) (halfway m) × (man_on p.men m.to ≡ None) × (list_any (rides p.men (corner m) m.from) straight_steps ≡ true)
+  the_way : IsCastlingLine m.from (corner m) (halfway m) × (man_on p.men m.to ≡ None) × (list_any (rides p.men (corner m) m.from) straight_steps ≡ true)
   unfolding can_castle may_castle
   the_way = way p.men m.from m.to (corner m) (halfway m) castle.1.from castle.1.far (search (rules, and_parts, ways, false≢true, castle, king_no_step))
 

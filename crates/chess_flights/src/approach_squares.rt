@@ -5,8 +5,7 @@ ghost use Rattle.chess_flights.specs.ties.Approaches.{ArePromotions, AreApproach
 
 use chess_attacks::unblocked::unblocked_reach;
 use chess_attacks::words::only;
-use chess_core::square::LAST_RANKS;
-use chess_core::{Colour, Kind, Man, Square, Squares};
+use chess_core::{Colour, Kind, LAST_RANKS, Man, Square, Squares};
 
 /// Returns a superset of the squares from which the man reaches `to` on some board; for a grasshopper a
 /// queen's lines.

@@ -11,13 +11,21 @@ use std::alloc::AllocError;
 /// A value for each kind.
 #[derive(Copy)]
 pub struct ByKind<T> {
+    /// The value for kings.
     pub kings: T,
+    /// The value for queens.
     pub queens: T,
+    /// The value for rooks.
     pub rooks: T,
+    /// The value for bishops.
     pub bishops: T,
+    /// The value for knights.
     pub knights: T,
+    /// The value for pawns.
     pub pawns: T,
+    /// The value for grasshoppers.
     pub grasshoppers: T,
+    /// The value for nightriders.
     pub nightriders: T,
 }
 
@@ -29,17 +37,20 @@ impl<T: Copy> Clone for ByKind<T> {
     }
 }
 
-/// A computation for one kind, from the value for it. `holds` says what the result means, and `fits` what it
-/// requires.
+/// A computation for one kind, from the value for it.
 pub trait ForKind<T> {
     ghost use Rattle.chess_core.specs.declared.man.Kind.{Kind};
 
+    /// What is computed for a kind.
     type Out;
 
+    /// What the computation requires; nothing unless it says so.
     ghost fits: { Self → Type 0 } = { λ _. Unit {0} };
 
+    /// What the result for a kind and its value means.
     ghost holds: { Self → Kind → T → Self.Out → Type 0 };
 
+    /// Returns the result for the kind, whose value is `value`.
     fn of(&self, kind: Kind, value: T) -> Self::Out
         requires { fits self.now }
         ensures { holds self.now kind value result };
@@ -97,7 +108,8 @@ pub fn for_each_kind<T: Copy, F: ForKind<T>>(f: &F, values: &ByKind<T>) -> ByKin
     }
 }
 
-/// Returns whether `f` is true for each kind. Stops at the first kind for which it is false.
+/// Returns whether `f` is true for each kind. Stops at the first kind for which it is false. `false` promises
+/// nothing: it costs callers time alone.
 #[inline(always)]
 pub fn is_for_all<T: Copy, F: ForKind<T, Out = bool>>(f: &F, values: &ByKind<T>) -> bool
     requires { F.fits f.now }

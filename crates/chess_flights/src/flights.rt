@@ -19,7 +19,7 @@ use chess_attacks::occupancy::{Occupancy, occupancy_after};
 use chess_attacks::reach::reach_over;
 use chess_attacks::words::{only, pop_first};
 use chess_core::{Board, Colour, Kind, Man, Move, Square, Squares};
-use chess_rules::{arriving_man, capture_square};
+use chess_rules::unplayed::{arriving_man, capture_square};
 
 /// Returns the occupancy after a man has gone from `from` to `to`, the man on `captured` has left the
 /// board, and the king on `king` is lifted. The man that moved isn't among the standing men.

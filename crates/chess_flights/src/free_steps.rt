@@ -13,8 +13,7 @@ use chess_attacks::Rules;
 use chess_attacks::leaps::king_leaps;
 use chess_attacks::lines::occupied;
 use chess_attacks::words::only;
-use chess_core::square::LAST_RANKS;
-use chess_core::{Board, Colour, Kind, Man, Square, Squares};
+use chess_core::{Board, Colour, Kind, LAST_RANKS, Man, Square, Squares};
 
 /// Returns whether no grasshopper is on the board.
 #[tactic(auto, using(crate::proofs::QuietFilter::no_grasshopper))]

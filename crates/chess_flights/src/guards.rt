@@ -9,8 +9,7 @@ use crate::by_kind::{ForKind, for_each_kind, union_of};
 use chess_attacks::reach::reach_over;
 use chess_attacks::unblocked::unblocked_reach;
 use chess_attacks::words::pop_first;
-use chess_core::man::Gait;
-use chess_core::{Colour, Kind, Man, Square, Squares};
+use chess_core::{Colour, Gait, Kind, Man, Square, Squares};
 
 /// Returns the squares that the man on `from` reaches over the hurdles.
 #[tactic(auto, using(chess_attacks::proofs::rays::OnSquares::occupied_on, crate::proofs::Hurdles::reached_is, chess_attacks::proofs::Bits::word_has), unfolding(crate::specs::ties::Guards::reached_over))]
@@ -76,27 +75,27 @@ pub fn reach_of(
     reach_together(hurdles, Man { colour, kind }, squares, region)
 }
 
-// The squares that leapers, or else riders, near the region reach over the hurdles.
+// The squares that men of one gait near the region reach over the hurdles.
 #[derive(Drop)]
 struct GaitReach {
     hurdles: Squares,
     colour: Colour,
     region: Squares,
-    leapers: bool,
+    gait: Gait,
 }
 
 impl ForKind<Squares> for GaitReach {
     type Out = Squares;
 
-    ghost holds = { λ f k s w. IsKindReach f.hurdles f.region (moves_as f.leapers)
+    ghost holds = { λ f k s w. IsKindReach f.hurdles f.region (moves_as f.gait)
         (record { colour = f.colour; kind = k }) s w };
 
     #[inline(always)]
     fn of(&self, kind: Kind, squares: Squares) -> Squares {
         let counts = match kind.gait() {
-            Gait::Leaper => self.leapers,
-            Gait::Rider => !self.leapers,
-            Gait::Hopper => false,
+            Gait::Leaper => matches!(self.gait, Gait::Leaper),
+            Gait::Rider => matches!(self.gait, Gait::Rider),
+            Gait::Hopper => matches!(self.gait, Gait::Hopper),
         };
         if !counts {
             return 0;
@@ -105,11 +104,11 @@ impl ForKind<Squares> for GaitReach {
     }
 }
 
-// Returns the squares that leapers, or else riders, near the region reach over the hurdles.
+// Returns the squares that men of this gait near the region reach over the hurdles.
 #[tactic(auto, using(crate::proofs::Hurdles::kinds_attack, crate::proofs::Hurdles::kinds_reach))]
 #[inline(always)]
-fn gait_reach(hurdles: Squares, men: &Attackers, region: Squares, leapers: bool) -> Squares
-    ensures all { AreReached hurdles men.now region (moves_as leapers) result }
+fn gait_reach(hurdles: Squares, men: &Attackers, region: Squares, gait: Gait) -> Squares
+    ensures all { AreReached hurdles men.now region (moves_as gait) result }
     ensures alone { (t : ℕ) → t < 64 → (bit_at result t == 1) ≡ true
         → IsAttackedOver hurdles men.now t }
 {
@@ -118,7 +117,7 @@ fn gait_reach(hurdles: Squares, men: &Attackers, region: Squares, leapers: bool)
         hurdles,
         colour,
         region,
-        leapers,
+        gait,
     };
     union_of(&for_each_kind(&reach, &men.squares))
 }
@@ -130,7 +129,7 @@ pub fn rider_reach(hurdles: Squares, men: &Attackers, region: Squares) -> Square
     ensures alone { (t : ℕ) → t < 64 → (bit_at result t == 1) ≡ true
         → IsAttackedOver hurdles men.now t }
 {
-    gait_reach(hurdles, men, region, false)
+    gait_reach(hurdles, men, region, Gait::Rider)
 }
 
 /// Returns the squares that leapers near the region reach.
@@ -139,5 +138,5 @@ pub fn leapt_squares(hurdles: Squares, men: &Attackers, region: Squares) -> Squa
     ensures alone { (t : ℕ) → t < 64 → (bit_at result t == 1) ≡ true
         → IsAttackedOver hurdles men.now t }
 {
-    gait_reach(hurdles, men, region, true)
+    gait_reach(hurdles, men, region, Gait::Leaper)
 }

@@ -5,7 +5,7 @@ use Rattle.chess_flights.proofs.Fleeing.{king_waits, on_second, reaches_alike_of
 use Rattle.chess_rules.proofs.legality.Seeing.{IsCapture, seen_after}
 use Rattle.chess_flights.proofs.Mating.{turn_after}
 use Rattle.chess_flights.proofs.Standing.{captured_there, stays_there, stood as stands_after}
-use Rattle.chess_mates.specs.ties.Parries.{AreBetween, AreParriesKnown, IsInterposed, IsParriless, IsShutBy, IsKnownBetween, IsUntaken, IsWayBetween, NobodyComes, comes, is_on_line, is_unpinned}
+use Rattle.chess_mates.specs.ties.Parries.{AreBetween, AreParriesKnown, IsInterposed, IsParriless, IsShutBy, IsKnownBetween, IsUncaptured, IsWayBetween, NobodyComes, comes, is_on_line, is_unpinned}
 use Rattle.chess_attacks.specs.declared.occupancy.Occupancy.{Occupancy}
 use Rattle.chess_mates.specs.declared.parries.Parries.{Parries}
 use Rattle.chess_mates.specs.declared.parries.Parries.TheVariants.{Impossible, Possible}
@@ -84,10 +84,10 @@ module _ (men after : List (Option Man)) (a b s t k : ℕ) (z : Man) (c : Colour
   unreached_after = unreached mid after s t z shift_second c k covered small (unlined_before men mid (other c) k t fairy_stood too) (quiet mid s t)
 
 -- if the man on b doesn't reach k, replacing it by another doesn't change what the others reach
-pub unreached_in_place : (men : List (Option Man)) (b k : ℕ) (z : Man) (c : Colour) → b < length men → is_some (man_on men b) ≡ true
+pub unreached_instead : (men : List (Option Man)) (b k : ℕ) (z : Man) (c : Colour) → b < length men → is_some (man_on men b) ≡ true
     → (is_of_colour (man_on men b) c && reaches men b k) ≡ false → is_reached (with_man men b z) k c ≡ false → is_reached men k c ≡ false
 unfolding is_reached reaches
-unreached_in_place men b k z c size some harmless none =
+unreached_instead men b k z c size some harmless none =
     let alike : StandAlike (with_man men b z) men k = record { alike = λ q ne. grind (arith, cases_eq q b, man_on-with_other, man_on-with_same, size, some) } in
     let same = λ (s : ℕ). reaches_alike_of (with_man men b z) men (man_on men s) s k alike in
     let reached = some_square_true (λ s. is_of_colour (man_on (with_man men b z) s) c && reaches (with_man men b z) s k) in
@@ -183,7 +183,7 @@ module _ (rule : RuleSet) (p : Position) (m : Move) (x : Man) (k : ℕ) (well : 
     mortal : same_kind y.kind King ≡ false
     mortal = false_from_ne_true _ (λ h. grind (arith, king_is p.men (other p.turn) s well.kings inside, stood_y, and_from, enemy, h, king, covered_y.apart, eq-eqb))
 
-    -- a reply goes to a square where nothing is captured elsewhere, and the checking man is taken or
+    -- a reply goes to a square where nothing is captured elsewhere, and the checking man is captured or
     -- doesn't reach the king
     module _ (t : ℕ) (lt : t < 64) (takes_there : (j : ℕ) → capture_square q y (reply y s t) ≡ Some j → j ≡ t)
         (goes : can_go rule q y (reply y s t) ≡ true) (free : is_arrival_free q.turn (man_on q.men t) ≡ true)
@@ -245,17 +245,17 @@ module _ (rule : RuleSet) (p : Position) (m : Move) (x : Man) (k : ℕ) (well : 
           let mine : same_colour y.colour q.turn ≡ true = ap (same_colour y.colour) turn ∙ enemy in
           no_mate_with_reply rule q n well_q (reply_is_legal rule q y s t k well_q there mine reported.able reported.reborn mortal lt free goes king_q
           (ap (λ (c : Colour). is_reached (arrived q y n) k (other c)) turn
-          ∙ unreached_in_place (arrived q y n) m.to k z (other (other p.turn)) size_r arrives_still harmless unreached_replaced))
+          ∙ unreached_instead (arrived q y n) m.to k z (other (other p.turn)) size_r arrives_still harmless unreached_replaced))
 
   arrives : man_on q.men m.to ≡ Some (arriving_man x m.promo)
   arrives = grind (arith, men_q, there_now, small, well.size)
 
-  -- the reply takes the checking man
-  taken_from : (s : ℕ) (o : Option Man) → man_on q.men s ≡ o → s < 64 → is_of_colour o (other p.turn) ≡ true → reaches q.men s m.to ≡ true
+  -- the reply captures the checking man
+  captured_from : (s : ℕ) (o : Option Man) → man_on q.men s ≡ o → s < 64 → is_of_colour o (other p.turn) ≡ true → reaches q.men s m.to ≡ true
       → is_unpinned p m k s ≡ true → is_mate rule q ≡ false
   unfolding capture_square
-  taken_from s None at inside side takes unpinned = absurd (false≢true side)
-  taken_from s (Some y) at inside side takes unpinned =
+  captured_from s None at inside side takes unpinned = absurd (false≢true side)
+  captured_from s (Some y) at inside side takes unpinned =
       let free : is_arrival_free q.turn (man_on q.men m.to) ≡ true =
       grind (arith, arrives, turn_after rule p m may, arriving_colour, is_m.mine, other_differs, reported.unpromoted, reported.mortal) in
       let goes : can_go rule q y (reply y s m.to) ≡ true =
@@ -313,26 +313,26 @@ module _ (rule : RuleSet) (p : Position) (m : Move) (x : Man) (k : ℕ) (well : 
       → ((men : List (Option Man)) → DescribesMen p.men men (other p.turn) v → IsKnownBetween men p x m k r) → is_mate rule q ≡ false
   no_mate_where_interposed v sees r is reported = between_from (subst (IsKnownBetween q.men p x m k) is (reported q.men (seen_q v sees))) _ refl
 
-  -- for `parries_after`: somebody takes the man that has come
-  pub no_mate_where_some_take : (v : Occupancy) → v ≡ occupancy_after p.men m.from (capture_square p x m) m.to → (t w : ℕ)
+  -- for `parries_after`: somebody captures the man that has come
+  pub no_mate_where_some_capture : (v : Occupancy) → v ≡ occupancy_after p.men m.from (capture_square p x m) m.to → (t w : ℕ)
       → ((men : List (Option Man)) → DescribesMen p.men men (other p.turn) v → t ≡ word (λ s. is_of_colour (man_on men s) (other p.turn) && reaches men s m.to))
       → w ≡ word (is_unpinned p m k) → not (bit_and t w == 0) ≡ true → is_mate rule q ≡ false
   unfolding some_square squares
-  no_mate_where_some_take v sees t w takers unpinned some =
+  no_mate_where_some_capture v sees t w capturers unpinned some =
       let are : bit_and t w ≡ word (λ s. is_of_colour (man_on q.men s) (other p.turn) && reaches q.men s m.to && is_unpinned p m k s) =
-      search (rules, squares_both, takers q.men (seen_q v sees), unpinned) in
+      search (rules, squares_both, capturers q.men (seen_q v sees), unpinned) in
       let takes = λ (s : ℕ). is_of_colour (man_on q.men s) (other p.turn) && reaches q.men s m.to && is_unpinned p m k s in
       elim (any_range_cases takes 0 64) [
         | inl w ↦
             let both = and_parts _ (is_unpinned p m k w.0) w.3 in
             let parts = and_parts _ (reaches q.men w.0 m.to) both.0 in
-            taken_from w.0 _ refl w.2 parts.0 parts.1 both.1
+            captured_from w.0 _ refl w.2 parts.0 parts.1 both.1
         | inr none ↦ absurd (false≢true (sym (any_range_false takes 0 64 none) ∙ (sym (some_square_known takes (bit_and t w) are) ∙ some)))
       ]
 
-  -- if the checking man isn't taken and no man interposes, the check stays
-  module _ (o w : ℕ) (i : IsUntaken o w x m.to k) (occupied : o ≡ occupied_squares q.men)
-      (takers : w ≡ word (λ s. is_of_colour (man_on q.men s) (other p.turn) && reaches q.men s m.to)) (u : NobodyComes q.men (other p.turn) m.to k) where
+  -- if the checking man isn't captured and no man interposes, the check stays
+  module _ (o w : ℕ) (i : IsUncaptured o w x m.to k) (occupied : o ≡ occupied_squares q.men)
+      (capturers : w ≡ word (λ s. is_of_colour (man_on q.men s) (other p.turn) && reaches q.men s m.to)) (u : NobodyComes q.men (other p.turn) m.to k) where
     -- nobody is captured en passant
     uncrossed : q.crossed ≡ None
     unfolding position_after position_after_by
@@ -355,15 +355,15 @@ module _ (rule : RuleSet) (p : Position) (m : Move) (x : Man) (k : ℕ) (well : 
           let there = king_there q.men q.turn k king_q in
           false_from_ne_true _ (λ h. grind (arith, there.1, is.here, eqb-true k n.from h, mortal, and_parts, false≢true))
 
-      -- the reply doesn't take the checking man
-      untaken : n.to ≢ m.to
+      -- the reply doesn't capture the checking man
+      uncaptured : n.to ≢ m.to
       unfolding can_castle may_castle
-      untaken e =
+      uncaptured e =
           let goes : reaches q.men n.from m.to ≡ true =
           grind (arith, is.can_go, e, arrives, cases_Bool (same_kind y.kind Pawn), cond-true, cond-false, and_left, and_parts, or_cases, mortal, false≢true) in
           let side = ap (λ (v : Option Man). is_of_colour v (other p.turn)) is.here ∙ enemy in
-          let set : (bit_at w n.from == 1) ≡ true = word_has _ w n.from takers inside ∙ and_from _ _ side goes in
-          false≢true (sym away ∙ i.untaken n.from inside set)
+          let set : (bit_at w n.from == 1) ≡ true = word_has _ w n.from capturers inside ∙ and_from _ _ side goes in
+          false≢true (sym away ∙ i.uncaptured n.from inside set)
 
       -- the man doesn't interpose
       apart : (bit_at u.squares n.to == 1) ≡ false
@@ -399,7 +399,7 @@ module _ (rule : RuleSet) (p : Position) (m : Move) (x : Man) (k : ℕ) (well : 
           let free : Frees q.men (arrived q y n) n.to = frees_after q.men (arrived q y n) n.from n.to (arriving_man y n.promo) shift in
           let stays : man_on (arrived q y n) m.to ≡ Some x =
           stays_there q y n m.to (λ s cap. captured_there q y n s plain.crossed cap) (λ e. no_enemy (sym is.here ∙ ap (man_on q.men) (sym e) ∙ arrives))
-          (λ e. untaken (sym e)) ∙ arrives ∙ ap (λ (r : Option Kind). Some (arriving_man x r)) reported.unpromoted in
+          (λ e. uncaptured (sym e)) ∙ arrives ∙ ap (λ (r : Option Kind). Some (arriving_man x r)) reported.unpromoted in
           let holds = reaches_still q.men (arrived q y n) n.to k m.to u.squares free small low lt u.between apart x.colour x.kind i.orthodox
           (i.check q.men occupied) in
           let reached : is_reached (arrived q y n) k (other q.turn) ≡ true =
@@ -433,13 +433,13 @@ module _ (rule : RuleSet) (p : Position) (m : Move) (x : Man) (k : ℕ) (well : 
     }
 
   -- for `parries_after`: nobody can
-  pub parriless : (v : Occupancy) → v ≡ occupancy_after p.men m.from (capture_square p x m) m.to → (t : ℕ) → IsUntaken v.occupied t x m.to k
+  pub parriless : (v : Occupancy) → v ≡ occupancy_after p.men m.from (capture_square p x m) m.to → (t : ℕ) → IsUncaptured v.occupied t x m.to k
       → ((men : List (Option Man)) → DescribesMen p.men men (other p.turn) v → t ≡ word (λ s. is_of_colour (man_on men s) (other p.turn) && reaches men s m.to))
       → (r : Parries) → r ≡ Impossible → ((men : List (Option Man)) → DescribesMen p.men men (other p.turn) v → IsKnownBetween men p x m k r)
       → IsParriless rule q
-  parriless v sees t i takers r is reported =
+  parriless v sees t i capturers r is reported =
       let seen = seen_q v sees in
-      is_parriless v.occupied t i seen.occupied (takers q.men seen) (subst (IsKnownBetween q.men p x m k) is (reported q.men seen))
+      is_parriless v.occupied t i seen.occupied (capturers q.men seen) (subst (IsKnownBetween q.men p x m k) is (reported q.men seen))
 
 -- the words of the squares of men that aren't pinned
 module _ (p : Position) (m : Move) (k w l d : ℕ) (blockers : w ≡ word (may_expose p.men (other p.turn))) (straight : l ≡ word (is_on_some straight_steps k))
@@ -532,7 +532,7 @@ nobody_between men p b k a o f occupied lines between free none =
       none = λ t lt on. none t lt (seen_bit _ a (bit_or o f) t held lt on (off t on));
     }
 
--- for `is_untaken`: all men that take the checker are on the king's square
+-- for `is_uncaptured`: all men that capture the checker are on the king's square
 pub kings_alone : (w n k s : ℕ) → n ≡ word (is_square (Some k)) → (bit_and w (bit_not w64 n) == 0) ≡ true → s < 64 → (bit_at w s == 1) ≡ true
     → is_square (Some k) s ≡ true
 kings_alone w n k s only none lt on =

@@ -3,7 +3,7 @@
 use Rattle.chess_mates.proofs.Chess.{Colour, IsMade, IsShift, IsWellFormed, List, Man, Move, None, Option, Position, RuleSet, Some, and_right, arith, arriving_man, arrived, bit_at, cannot_expose, cannot_expose_parts, capture_square, cases_Bool, cases_eq, covered_parts, eq-eqb, false, false≢true, gone_to, in_check, is_pseudo_legal, is_reached, is_square, king_square, king_there, length, length-set, made, man_on, man_on-with_other, man_on-with_same, may_expose, may_be_hurdle, not_attacked, occupied_now, occupied_squares, occupied_words, other, other_differs, position_after, reaches, reaches_as, refl, rules, occupancy_after, simple_after, squares_same, square_is, sym, there_now, true, unreached, with_man, word, word_has, ℕ, ◌<◌, ◌==◌, ◌∙◌, ◌≡◌}
 use Rattle.chess_rules.proofs.legality.Blocking.{CannotExpose, arrived_shift}
 use Rattle.chess_flights.proofs.Fleeing.{king_waits}
-use Rattle.chess_mates.proofs.Parrying.{unreached_in_place}
+use Rattle.chess_mates.proofs.Parrying.{unreached_instead}
 use Rattle.chess_flights.proofs.Standing.{captured_there}
 use Rattle.chess_rules.proofs.making_moves.Plays.{length-without_at}
 
@@ -36,7 +36,7 @@ module _ (rule : RuleSet) (p : Position) (x : Man) (m : Move) (well : IsWellForm
   there : man_on then m.to ≡ Some (arriving_man x m.promo)
   there = there_now p.men m.from (capture_square p x m) m.to (arriving_man x m.promo) size
 
-  -- a man of the other side in its place
+  -- a man of the other side instead of it
   abbrev instead : Man
   instead = record x { colour = c }
 
@@ -57,7 +57,7 @@ module _ (rule : RuleSet) (p : Position) (x : Man) (m : Move) (well : IsWellForm
       let covered = covered_parts p.men c m.from k (rw at at parts.origin) in
       let others = unreached p.men (with_man then m.to instead) m.from m.to instead shift c k covered (king_there p.men c k at).0 (rw at at parts.aside)
       (record { quiet = λ h. absurd (false≢true (sym (other_differs c) ∙ h)); stood = λ h. absurd (false≢true (sym (other_differs c) ∙ h)) }) in
-      unreached_in_place then m.to k instead (other c) size_then (rw there refl) (grind (arith, there, harmless, and_right)) others
+      unreached_instead then m.to k instead (other c) size_then (rw there refl) (grind (arith, there, harmless, and_right)) others
 
   -- a promotion gives no check, if the man that arrives doesn't reach the king
   pub no_check_unreached : ((k : ℕ) → king_square p.men c ≡ Some k

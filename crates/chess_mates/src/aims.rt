@@ -12,7 +12,8 @@ use chess_attacks::Rules;
 use chess_attacks::unblocked::unblocked_reach;
 use chess_attacks::words::contains;
 use chess_core::{Board, Man, Move, Square, Squares};
-use chess_rules::{Cursor, LegalCursor, LegalityMasks, MoveTest};
+use chess_rules::unplayed::{LegalityMasks, MoveTest};
+use chess_rules::{Cursor, LegalCursor};
 
 // Returns the squares from which the man on `from`, if there is one, would attack the enemy king on the
 // board as it is.
@@ -73,7 +74,7 @@ pub fn aims_at_king(board: &Board, m: &Move) -> bool
 // What the search for aimed moves, for which `aims_at_king` holds, knows of a position.
 #[derive(Clone, Copy)]
 struct Aimed {
-    known: LegalityMasks,
+    masks: LegalityMasks,
 }
 
 impl MoveTest for Aimed {
@@ -84,11 +85,11 @@ impl MoveTest for Aimed {
 
     ghost test = { λ rule p. is_legal_and rule p (aims_at_king p) };
 
-    ghost fits = { λ s rule p. IsKnownIn rule p s.known };
+    ghost fits = { λ s rule p. IsKnownIn rule p s.masks };
 
     #[tactic(auto, using(chess_rules::proofs::listing_moves::Filtering::wanted_origins))]
     fn origins<R: Rules>(&self, board: &Board) -> Squares {
-        self.known.origins::<R>(board)
+        self.masks.origins::<R>(board)
     }
 
     #[tactic(auto, using(crate::proofs::Aiming::aimed_candidates), unfolding(crate::specs::ties::Aims::aims_at_king))]
@@ -97,11 +98,11 @@ impl MoveTest for Aimed {
         if squares == 0 {
             return 0;
         }
-        self.known.candidates::<R>(board, from) & squares
+        self.masks.candidates::<R>(board, from) & squares
     }
 
     fn meets<R: Rules>(&self, board: &mut Board, m: Move) -> bool {
-        self.known.meets::<R>(board, m) && aims_at_king(board, &m)
+        self.masks.meets::<R>(board, m) && aims_at_king(board, &m)
     }
 
     ghost idle = { λ rule p m h. is_legal_and-idle rule p (aims_at_king p) m h };
@@ -125,7 +126,7 @@ pub fn next_aimed<R: Rules>(moves: &mut LegalCursor<R>, board: &mut Board) -> Op
     ensures board { board.new ≡ board.old }
 {
     let aimed = Aimed {
-        known: *moves.test(),
+        masks: *moves.test(),
     };
     let mut cursor = Cursor::<R, Aimed>::over(aimed);
     cursor.go_to(moves.place());

@@ -20,13 +20,14 @@ use chess_attacks::lines::occupied;
 use chess_attacks::occupancy::occupancy_after;
 use chess_attacks::words::{contains, only};
 use chess_attacks::{Orthodox, Rules};
-use chess_core::square::LAST_RANKS;
-use chess_core::{Board, Colour, Kind, Man, Move, Square, Squares};
+use chess_core::{Board, Colour, Kind, LAST_RANKS, Man, Move, Square, Squares};
 use chess_flights::approach_squares::promotion_squares;
 use chess_flights::attackers::has_fairy_promotions;
 use chess_flights::by_kind::{ByKind, ForKind, for_all, for_each_kind, value_for};
 use chess_flights::flights::covered_squares;
-use chess_rules::{cannot_expose, fairy_lines, rebirth_captures, safety_from, unblocked_targets};
+use chess_rules::unplayed::{
+    cannot_expose, fairy_lines, rebirth_captures, safety_from, unblocked_targets,
+};
 
 /// What decides whether a move in a position may give check: the squares from which a move may expose
 /// the king (`blocker_squares`); the lines to the king that carry a fairy man; the squares from which a man

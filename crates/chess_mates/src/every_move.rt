@@ -20,7 +20,8 @@ use chess_attacks::leaps::king_leaps;
 use chess_attacks::occupancy::occupancy_after;
 use chess_attacks::words::{contains, pop_first};
 use chess_core::{Board, Man, Move, Square, Squares};
-use chess_rules::{LegalCursor, arrivals, capture_square, is_mate, play, unplay};
+use chess_rules::unplayed::{arrivals, capture_square};
+use chess_rules::{LegalCursor, is_mate, play, unplay};
 
 /// Returns whether the side to move has a legal move and each of its legal moves mates. A move that
 /// can't give check decides this without being played. The board is unchanged.

@@ -14,7 +14,7 @@ ghost use Rattle.chess_rules.specs.ties.Exposure.{is_simple};
 use chess_attacks::Rules;
 use chess_core::{Board, Kind, Man, Move, Square};
 use chess_flights::flights::{covered_squares, first_safe, occupancy_lifted, open_squares};
-use chess_rules::{capture_square, is_simple};
+use chess_rules::unplayed::{capture_square, is_simple};
 
 /// What is known of the flights of the side to move.
 #[derive(Clone, Copy)]

@@ -22,10 +22,8 @@ use crate::parries::{Parries, parries_after};
 use crate::standing_flights::{StandingFlights, standing_flights};
 use chess_attacks::{Rules, in_check};
 use chess_core::{Board, Colour, Move, Square, Squares};
-use chess_rules::{
-    Cursor, MoveTest, Moves, arrivals, has_legal_move, is_pseudo_legal, others_have_move, play,
-    unplay,
-};
+use chess_rules::unplayed::{MoveTest, arrivals, is_pseudo_legal, others_have_move};
+use chess_rules::{Cursor, MovePlace, has_legal_move, play, unplay};
 
 /// What shows that a move doesn't mate: the squares from which a move may give check, and the flights of
 /// the enemy king.
@@ -53,7 +51,7 @@ pub fn mate_cursor<R: Rules>(board: &Board) -> MateCursor<R>
 /// Returns the next legal move after `place` that mates, and moves `place` to it. After the last one it
 /// returns `None` and moves `place` to the end. The board is unchanged.
 #[tactic(auto, using(crate::proofs::NextMate::next_mates))]
-pub fn next_mate<R: Rules>(place: &mut Moves<R>, board: &mut Board) -> Option<Move>
+pub fn next_mate<R: Rules>(place: &mut MovePlace, board: &mut Board) -> Option<Move>
     requires { IsWellFormed board.old }
     ensures place { place.new ≡ place_of result }
     ensures rest { MatchOption result (mates_after R.rule board.old place.old ≡ [])

@@ -12,7 +12,7 @@ use chess_attacks::Rules;
 use chess_attacks::words::{next_bit, only, pop_first};
 use chess_core::{Board, Kind, Man, Square, Squares};
 use chess_flights::pawn_approaches::pawns_before;
-use chess_rules::unblocked_targets;
+use chess_rules::unplayed::unblocked_targets;
 
 // Returns the squares of the mover's men of this kind whose moves can't expose the enemy king.
 #[inline(always)]

@@ -10,7 +10,7 @@ ghost use Rattle.chess_core.specs.declared.man.Kind.TheVariants.{Pawn};
 ghost use Rattle.chess_core.specs.declared.man.Man.{Man};
 ghost use Rattle.chess_core.specs.ties.Words.{squares_of, word};
 ghost use Rattle.chess_mates.specs.ties.CheckSquares.{AreCheckSquares};
-ghost use Rattle.chess_mates.specs.ties.Parries.{AreBetween, AreParries, AreParriesKnown, IsShutBy, IsKnownBetween, IsUntaken, comes, is_unpinned};
+ghost use Rattle.chess_mates.specs.ties.Parries.{AreBetween, AreParries, AreParriesKnown, IsShutBy, IsKnownBetween, IsUncaptured, comes, is_unpinned};
 ghost use Rattle.chess_attacks.specs.Reaches.{forward, reaches, reaches_as};
 ghost use Rattle.chess_rules.specs.Legal.{is_pseudo_legal};
 ghost use Rattle.chess_rules.specs.Play.{position_after};
@@ -27,7 +27,7 @@ use chess_attacks::occupancy::{Occupancy, occupancy_after};
 use chess_attacks::reach::reach_over;
 use chess_attacks::words::{contains, next_bit, only, pop_first};
 use chess_core::{Board, Colour, Kind, Man, Move, Square, Squares};
-use chess_rules::{cannot_expose, capture_square, fairy_lines};
+use chess_rules::unplayed::{cannot_expose, capture_square, fairy_lines};
 
 /// What is known of parries of a check by legal moves of men other than the king.
 #[derive(Clone, Copy)]
@@ -189,14 +189,14 @@ fn parries_between(
     }
 }
 
-// Returns whether nobody but the king can take the checker on `to`. Returns `false` for a pawn, which
-// might be captured en passant, and for a fairy man. `takers` are the squares of the men that reach the
+// Returns whether nobody but the king can capture the checker on `to`. Returns `false` for a pawn, which
+// might be captured en passant, and for a fairy man. `capturers` are the squares of the men that reach the
 // checker.
-fn is_untaken(occupied: Squares, takers: Squares, man: Man, to: Square, king: Square) -> bool
-    ensures { result ≡ true → IsUntaken occupied takers man to king }
+fn is_uncaptured(occupied: Squares, capturers: Squares, man: Man, to: Square, king: Square) -> bool
+    ensures { result ≡ true → IsUncaptured occupied capturers man to king }
 {
     king.show_below_64();
-    takers & !only(Some(king)) == 0
+    capturers & !only(Some(king)) == 0
         && !man.kind.is(Kind::Pawn)
         && !man.kind.is_fairy()
         && contains(reach_over(occupied, man.colour, man.kind, to), king)
@@ -226,14 +226,14 @@ pub(crate) fn parries_after<R: Rules>(board: &Board, squares: &CheckSquares, m: 
     to.show_below_64();
     let occupancy = occupancy_after(board, from, capture_square(board, man, m), to);
     let unpinned = unpinned_squares(board, squares, m, king);
-    let takers = attackers_in(board, occupancy, to, enemy);
-    let loose = takers & unpinned;
+    let capturers = attackers_in(board, occupancy, to, enemy);
+    let loose = capturers & unpinned;
     if loose != 0 {
         return Parries::Possible;
     }
     match parries_between(board, occupancy, man, m, king, unpinned) {
         Parries::Possible => Parries::Possible,
-        Parries::Impossible if is_untaken(occupancy.occupied, takers, man, to, king) => {
+        Parries::Impossible if is_uncaptured(occupancy.occupied, capturers, man, to, king) => {
             Parries::Impossible
         }
         _ => Parries::Unknown,

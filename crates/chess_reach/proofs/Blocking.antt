@@ -10,7 +10,7 @@ use Rattle.chess_reach.specs.ties.Whereabouts.{has}
 use Rattle.chess_reach.specs.ties.Ways.{IsChain, IsUsual, nowhere}
 use Rattle.std.proofs.lemmas.List.{get_or-set_other, get_or-set_same}
 
--- squares are added at one place
+-- squares are added at one index
 pub added_kept : (ws : List ℕ) (i v n t : ℕ) → i < length ws → (bit_at (slice_index_or ws n 0) t == 1) ≡ true
     → (bit_at (slice_index_or (slice_set ws i (bit_or (slice_index_or ws i 0) v)) n 0) t == 1) ≡ true
 added_kept ws i v n t room on = elim (cases_eq n i) [

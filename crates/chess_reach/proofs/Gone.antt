@@ -25,11 +25,6 @@ pub reborn_none : (rule : RuleSet) (p : Position) (x : Man) (m : Move) → captu
 unfolding reborn_square
 reborn_none rule p x m none_reborn = rw none_reborn (rebirth_none (captured_man p x m) (capture_square p x m) (moved_men p x m))
 
--- nobody is captured, nobody is reborn
-pub reborn_nobody : (rule : RuleSet) (p : Position) (x : Man) (m : Move) → capture_square p x m ≡ None → reborn_square rule p x m ≡ None
-unfolding reborn_square
-reborn_nobody rule p x m none = rw none refl
-
 -- a man that is reborn on r was captured, and its home was empty
 pub record IsBorn (p : Position) (e : Option ℕ) (men : List (Option Man)) (rb : Bool) (r : ℕ) : Type 0 where
   pub from : ℕ

@@ -7,10 +7,10 @@ use Rattle.std.specs.List.{sum_by}
 use Rattle.std.proofs.lemmas.List.{get_or-set_other, get_or-set_same}
 use Rattle.std.proofs.lemmas.List.Sums.{sum_by-cons}
 use Rattle.chess_reach.specs.Plans.{Ends}
-use Rattle.chess_reach.specs.declared.hold.Place.{Place}
+use Rattle.chess_reach.specs.declared.hold.Post.{Post}
 use Rattle.chess_reach.specs.declared.hold.Quest.{Quest}
 use Rattle.chess_reach.specs.ties.Guards.{guard_at, is_blocker}
-use Rattle.chess_reach.specs.ties.Hold.{Holds, IsIn, blocks_in, end_at, place_at}
+use Rattle.chess_reach.specs.ties.Hold.{Holds, IsIn, blocks_in, end_at, post_at}
 unfoldable use Rattle.chess_reach.specs.ties.Hold.{blocked, unpaid}
 use Rattle.chess_reach.specs.ties.Ways.{nowhere}
 
@@ -93,18 +93,18 @@ fewer_in b r w n inside = grind (arith, cases_Bool r)
 
 module _ (q : Quest) (men : List (Option Man)) (ends : Ends) where
   -- a guard has no more moves left than all together
-  pub one_spare : (places : List Place) (ours i : ℕ) → unpaid q places ends ≤ ours → i < q.count
-      → (end_at q ends i).moves ≤ (place_at places i).moves + ours
+  pub one_spare : (posts : List Post) (ours i : ℕ) → unpaid q posts ends ≤ ours → i < q.count
+      → (end_at q ends i).moves ≤ (post_at posts i).moves + ours
   unfolding unpaid
-  one_spare places ours i all lt =
-      omega (arith, all, one_within (λ j. (end_at q ends j).moves - (place_at places j).moves) 0 q.count i (omega arith) (omega (arith, lt)))
+  one_spare posts ours i all lt =
+      omega (arith, all, one_within (λ j. (end_at q ends j).moves - (post_at posts j).moves) 0 q.count i (omega arith) (omega (arith, lt)))
 
-  -- a guard's place is narrowed, and its moves are paid
-  pub placed : (places : List Place) (w ours theirs i : ℕ) (p : Place) → Holds q men places w ours theirs ends → i < q.count → i < length places
-      → IsIn (guard_at q.guards i) p (end_at q ends i) → (place_at places i).moves ≤ p.moves
-      → Holds q men (slice_set places i p) w (ours - (p.moves - (place_at places i).moves)) theirs ends
+  -- a guard's post is narrowed, and its moves are paid
+  pub paid_post : (posts : List Post) (w ours theirs i : ℕ) (p : Post) → Holds q men posts w ours theirs ends → i < q.count → i < length posts
+      → IsIn (guard_at q.guards i) p (end_at q ends i) → (post_at posts i).moves ≤ p.moves
+      → Holds q men (slice_set posts i p) w (ours - (p.moves - (post_at posts i).moves)) theirs ends
   unfolding unpaid
-  placed places w ours theirs i p h lt room inside more = record {
+  paid_post posts w ours theirs i p h lt room inside more = record {
     guards = h.guards;
     away = h.away;
     blockers = h.blockers;
@@ -118,28 +118,28 @@ module _ (q : Quest) (men : List (Option Man)) (ends : Ends) where
     holds = h.holds;
   }
     where
-      at_same : (j : ℕ) → j ≡ i → place_at (slice_set places i p) j ≡ p
-      at_same j same = ap (λ k. place_at (slice_set places i p) k) same ∙ get_or-set_same places i p (record { squares = nowhere; moves = 0 }) room
+      at_same : (j : ℕ) → j ≡ i → post_at (slice_set posts i p) j ≡ p
+      at_same j same = ap (λ k. post_at (slice_set posts i p) k) same ∙ get_or-set_same posts i p (record { squares = nowhere; moves = 0 }) room
 
-      at_other : (j : ℕ) → j ≢ i → place_at (slice_set places i p) j ≡ place_at places j
-      at_other j off = get_or-set_other places i j p (record { squares = nowhere; moves = 0 }) off
+      at_other : (j : ℕ) → j ≢ i → post_at (slice_set posts i p) j ≡ post_at posts j
+      at_other j off = get_or-set_other posts i j p (record { squares = nowhere; moves = 0 }) off
 
-      spent : (j : ℕ) → (end_at q ends j).moves - (place_at (slice_set places i p) j).moves ≤ (end_at q ends j).moves - (place_at places j).moves
+      spent : (j : ℕ) → (end_at q ends j).moves - (post_at (slice_set posts i p) j).moves ≤ (end_at q ends j).moves - (post_at posts j).moves
       spent j = elim (cases_eq j i) [
-        | inl same ↦ omega (arith, ap (λ (x : Place). x.moves) (at_same j same), more, ap (λ k. (place_at places k).moves) same)
-        | inr off ↦ omega (arith, ap (λ (x : Place). x.moves) (at_other j off))
+        | inl same ↦ omega (arith, ap (λ (x : Post). x.moves) (at_same j same), more, ap (λ k. (post_at posts k).moves) same)
+        | inr off ↦ omega (arith, ap (λ (x : Post). x.moves) (at_other j off))
       ]
 
-      less : sum_by (λ j. (end_at q ends j).moves - (place_at (slice_set places i p) j).moves) (range_with_len 0 q.count) + (p.moves - (place_at places i).moves)
-          ≤ sum_by (λ j. (end_at q ends j).moves - (place_at places j).moves) (range_with_len 0 q.count)
-      less = sum_less _ _ 0 q.count i (p.moves - (place_at places i).moves) (omega arith) (omega (arith, lt)) (λ j jlt. spent j)
-          (omega (arith, ap (λ (x : Place). x.moves) (at_same i refl), more, inside.paid))
+      less : sum_by (λ j. (end_at q ends j).moves - (post_at (slice_set posts i p) j).moves) (range_with_len 0 q.count) + (p.moves - (post_at posts i).moves)
+          ≤ sum_by (λ j. (end_at q ends j).moves - (post_at posts j).moves) (range_with_len 0 q.count)
+      less = sum_less _ _ 0 q.count i (p.moves - (post_at posts i).moves) (omega arith) (omega (arith, lt)) (λ j jlt. spent j)
+          (omega (arith, ap (λ (x : Post). x.moves) (at_same i refl), more, inside.paid))
 
   -- fewer squares are held
-  pub fewer_held : (places : List Place) (w r ours theirs : ℕ) → Holds q men places w ours theirs ends
-      → ((t : ℕ) → (bit_at r t == 1) ≡ true → (bit_at w t == 1) ≡ true) → Holds q men places r ours theirs ends
+  pub fewer_held : (posts : List Post) (w r ours theirs : ℕ) → Holds q men posts w ours theirs ends
+      → ((t : ℕ) → (bit_at r t == 1) ≡ true → (bit_at w t == 1) ≡ true) → Holds q men posts r ours theirs ends
   unfolding blocked squares
-  fewer_held places w r ours theirs h inside = record {
+  fewer_held posts w r ours theirs h inside = record {
     guards = h.guards;
     away = h.away;
     blockers = h.blockers;
@@ -158,10 +158,10 @@ module _ (q : Quest) (men : List (Option Man)) (ends : Ends) where
           (inside (ends s).square)
 
   -- a blocker has at most the moves of all
-  pub block_spare : (places : List Place) (w ours theirs s : ℕ) → Holds q men places w ours theirs ends → s < 64 → is_blocker men (other q.colour) s ≡ true
+  pub block_spare : (posts : List Post) (w ours theirs s : ℕ) → Holds q men posts w ours theirs ends → s < 64 → is_blocker men (other q.colour) s ≡ true
       → (ends s).taken ≡ false → (bit_at w (ends s).square == 1) ≡ true → (ends s).moves ≤ theirs
   unfolding blocked squares
-  block_spare places w ours theirs s h small blocker stays on =
+  block_spare posts w ours theirs s h small blocker stays on =
       let f : ℕ → ℕ = λ s. if blocks_in q men ends w s then (ends s).moves else 0 in
       omega (
         arith,
@@ -171,12 +171,12 @@ module _ (q : Quest) (men : List (Option Man)) (ends : Ends) where
       )
 
   -- a blocker ends on a square, and its moves are paid
-  pub block_paid : (places : List Place) (w r ours theirs z s price : ℕ) → Holds q men places w ours theirs ends → (bit_at w z == 1) ≡ true
+  pub block_paid : (posts : List Post) (w r ours theirs z s price : ℕ) → Holds q men posts w ours theirs ends → (bit_at w z == 1) ≡ true
       → (bit_at r z == 1) ≡ false → ((t : ℕ) → (bit_at r t == 1) ≡ true → (bit_at w t == 1) ≡ true) → s < 64
       → is_blocker men (other q.colour) s ≡ true → (ends s).square ≡ z → (ends s).taken ≡ false → price ≤ (ends s).moves
-      → Holds q men places r ours (theirs - price) ends
+      → Holds q men posts r ours (theirs - price) ends
   unfolding blocked squares
-  block_paid places w r ours theirs z s price h on off inside small blocker there stays cheap = record {
+  block_paid posts w r ours theirs z s price h on off inside small blocker there stays cheap = record {
     guards = h.guards;
     away = h.away;
     blockers = h.blockers;

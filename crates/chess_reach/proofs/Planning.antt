@@ -19,12 +19,12 @@ use Rattle.chess_reach.specs.Plans.{Arrives, Ends, IsBlocked, IsDefended, IsGuar
 unfoldable use Rattle.chess_reach.specs.Reach.{guards}
 use Rattle.chess_reach.specs.Reach.{Gets}
 use Rattle.chess_reach.specs.declared.guards.Guard.{Guard}
-use Rattle.chess_reach.specs.declared.hold.Place.{Place}
+use Rattle.chess_reach.specs.declared.hold.Post.{Post}
 use Rattle.chess_reach.specs.declared.hold.Ending.{Ending}
 use Rattle.chess_reach.specs.declared.hold.Quest.{Quest}
 use Rattle.chess_reach.specs.declared.whereabouts.Whereabouts.{Whereabouts}
 use Rattle.chess_reach.specs.ties.Guards.{AreBlocks, AreGuards, CanEnd, StaysAway, guard_at, is_blocker}
-use Rattle.chess_reach.specs.ties.Hold.{Captures, DoesCheck, DoesDefend, DoesGuard, Holds, IsApart, IsHeld, IsIn, IsQuestOf, blocks_in, end_at, place_at}
+use Rattle.chess_reach.specs.ties.Hold.{Captures, DoesCheck, DoesDefend, DoesGuard, Holds, IsApart, IsHeld, IsIn, IsQuestOf, blocks_in, end_at, post_at}
 unfoldable use Rattle.chess_reach.specs.ties.Hold.{blocked, unpaid}
 use Rattle.chess_reach.specs.ties.Whereabouts.{has}
 use Rattle.chess_reach.specs.ties.Ways.{IsChain, IsUsual, nowhere}
@@ -285,12 +285,12 @@ module _ (goal : Goal) (prey captured : ℕ) (p : Position) (q : Quest) (king : 
   ]
 
   -- all that the search keeps holds at its beginning
-  pub plan_holds : (places : List Place) (w steps : ℕ) → ours < 9 → q.king < 64
-      → ((i : ℕ) → i < q.count → place_at places i ≡ record { squares = slice_index_or (guard_at q.guards i).chain ours nowhere; moves = 0 })
+  pub plan_holds : (posts : List Post) (w steps : ℕ) → ours < 9 → q.king < 64
+      → ((i : ℕ) → i < q.count → post_at posts i ≡ record { squares = slice_index_or (guard_at q.guards i).chain ours nowhere; moves = 0 })
       → ((t : ℕ) → t < 64 → (bit_at w t == 1) ≡ true → guards White King q.king t ≡ true)
-      → steps ≤ (ends king.from).moves → Holds q p.men places w ours (theirs - captured - steps) ends
+      → steps ≤ (ends king.from).moves → Holds q p.men posts w ours (theirs - captured - steps) ends
   unfolding unpaid squares
-  plan_holds places w steps few low first needs cheap = record {
+  plan_holds posts w steps few low first needs cheap = record {
     guards = can_end few;
     away = stays_away;
     blockers = λ s small blocker.
@@ -301,7 +301,7 @@ module _ (goal : Goal) (prey captured : ℕ) (p : Position) (q : Quest) (king : 
       on = (of.guards.chains i lt).grows (end_at q ends i).moves ours _ _ (guard_moves i lt) (omega arith) (can_end few i lt).small (can_end few i lt).gets;
       paid = omega arith;
     });
-    paid = omega (arith, all_moves, sum_within (λ i. (end_at q ends i).moves) (λ i. (end_at q ends i).moves - (place_at places i).moves) 0 q.count (λ i lt. omega arith));
+    paid = omega (arith, all_moves, sum_within (λ i. (end_at q ends i).moves) (λ i. (end_at q ends i).moves - (post_at posts i).moves) 0 q.count (λ i lt. omega arith));
     blocking = blocking w steps cheap;
     holds = λ t small on. held low t (needs t small on);
   }

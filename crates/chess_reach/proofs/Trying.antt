@@ -2,16 +2,16 @@
 use Rattle.chess_attacks.proofs.Chess.{Bool, List, Man, Option, Some, arith, bit_at, cases_eq, [], inl, inr, length, other, refl, subst, suc, sym, true, zero, ap, ℕ, ◌+◌, ◌-◌, ◌<◌, ◌==◌, false, ◌∷◌, ◌≡◌, ◌≢◌, ◌≤◌}
 use Rattle.std.proofs.Common.{slice_index_or, slice_set}
 use Rattle.chess_core.specs.declared.man.Kind.{Kind}
-use Rattle.chess_reach.proofs.Holding.{one_spare, placed}
+use Rattle.chess_reach.proofs.Holding.{one_spare, paid_post}
 use Rattle.chess_reach.specs.Plans.{Arrives, End, Ends}
 use Rattle.chess_reach.specs.Reach.{guards}
 use Rattle.chess_rules.specs.Play.{rebirth}
 use Rattle.chess_reach.specs.declared.guards.Guard.{Guard}
-use Rattle.chess_reach.specs.declared.hold.Place.{Place}
+use Rattle.chess_reach.specs.declared.hold.Post.{Post}
 use Rattle.chess_reach.specs.declared.hold.Quest.{Quest}
 use Rattle.chess_reach.specs.declared.whereabouts.Whereabouts.{Whereabouts}
 use Rattle.chess_reach.specs.ties.Guards.{CanEnd, StaysAway, guard_at, is_blocker}
-use Rattle.chess_reach.specs.ties.Hold.{DoesGuard, DoesHold, Holds, IsIn, end_at, place_at}
+use Rattle.chess_reach.specs.ties.Hold.{DoesGuard, DoesHold, Holds, IsIn, end_at, post_at}
 use Rattle.chess_reach.specs.ties.Whereabouts.{has}
 use Rattle.chess_reach.specs.ties.Ways.{CanBe}
 
@@ -27,7 +27,7 @@ set_again [] i a b = refl
 set_again (x ∷ xs) zero a b = refl
 set_again (x ∷ xs) (suc i) a b = ap (λ ys. x ∷ ys) (set_again xs i a b)
 
-module _ (q : Quest) (men : List (Option Man)) (ends : Ends) (left : List Place) (w spare theirs i : ℕ) (g : Guard) (is : guard_at q.guards i ≡ g)
+module _ (q : Quest) (men : List (Option Man)) (ends : Ends) (left : List Post) (w spare theirs i : ℕ) (g : Guard) (is : guard_at q.guards i ≡ g)
     (lt : i < q.count) (h : Holds q men left w spare theirs ends) where
   -- the end of the guard that is tried is among these squares
   abbrev pub IsAmong : Whereabouts → Type 0
@@ -39,41 +39,41 @@ module _ (q : Quest) (men : List (Option Man)) (ends : Ends) (left : List Place)
   the_way : StaysAway q.ending.are_reborn g (end_at q ends i)
   the_way = subst (λ x. StaysAway q.ending.are_reborn x (end_at q ends i)) is (h.away i lt)
 
-  the_place : IsIn g (place_at left i) (end_at q ends i)
-  the_place = subst (λ x. IsIn x (place_at left i) (end_at q ends i)) is (h.inside i lt)
+  the_post : IsIn g (post_at left i) (end_at q ends i)
+  the_post = subst (λ x. IsIn x (post_at left i) (end_at q ends i)) is (h.inside i lt)
 
-  -- its place has it
-  pub in_place : IsAmong (place_at left i).squares
-  in_place = the_place.on
+  -- its post has it
+  pub in_post : IsAmong (post_at left i).squares
+  in_post = the_post.on
 
   pub on_board : (end_at q ends i).square < 64
   on_board = the_end.small
 
   -- what is said of ends within the moves is said of its end
   pub within_moves : {Q : Type 0} (x : Whereabouts)
-      → ((e : End) → CanEnd g e → (place_at left i).moves ≤ e.moves → e.moves ≤ (place_at left i).moves + spare → has g.kind e.kind e.square x ≡ true → Q) → IsAmong x → Q
-  within_moves x kept on = kept (end_at q ends i) the_end the_place.paid (one_spare q men ends left spare i h.paid lt) on
+      → ((e : End) → CanEnd g e → (post_at left i).moves ≤ e.moves → e.moves ≤ (post_at left i).moves + spare → has g.kind e.kind e.square x ≡ true → Q) → IsAmong x → Q
+  within_moves x kept on = kept (end_at q ends i) the_end the_post.paid (one_spare q men ends left spare i h.paid lt) on
 
   -- the same of what is said of the end itself
-  pub kept_in : (x : Whereabouts) (p : Place)
-      → ((e : End) → CanEnd g e → (place_at left i).moves ≤ e.moves → e.moves ≤ (place_at left i).moves + spare → has g.kind e.kind e.square x ≡ true → IsIn g p e)
+  pub kept_in : (x : Whereabouts) (p : Post)
+      → ((e : End) → CanEnd g e → (post_at left i).moves ≤ e.moves → e.moves ≤ (post_at left i).moves + spare → has g.kind e.kind e.square x ≡ true → IsIn g p e)
       → IsAmong x → IsIn (guard_at q.guards i) p (end_at q ends i)
   kept_in x p kept on = subst (λ x. IsIn x p (end_at q ends i)) (sym is)
-      (kept (end_at q ends i) the_end the_place.paid (one_spare q men ends left spare i h.paid lt) on)
+      (kept (end_at q ends i) the_end the_post.paid (one_spare q men ends left spare i h.paid lt) on)
 
   -- the same of a guard that checks
   pub arrives_within : {Q : Type 0} (sc : Bool) (x : Whereabouts)
-      → ((e : End) → CanEnd g e → StaysAway q.ending.are_reborn g e → (place_at left i).moves ≤ e.moves → e.moves ≤ (place_at left i).moves + spare
+      → ((e : End) → CanEnd g e → StaysAway q.ending.are_reborn g e → (post_at left i).moves ≤ e.moves → e.moves ≤ (post_at left i).moves + spare
       → has g.kind e.kind e.square x ≡ true → Arrives sc e → Q)
       → IsAmong x → Arrives sc (end_at q ends i) → Q
-  arrives_within sc x kept on arrives = kept (end_at q ends i) the_end the_way the_place.paid (one_spare q men ends left spare i h.paid lt) on arrives
+  arrives_within sc x kept on arrives = kept (end_at q ends i) the_end the_way the_post.paid (one_spare q men ends left spare i h.paid lt) on arrives
 
-  pub arrives_in : (sc : Bool) (x : Whereabouts) (p : Place)
-      → ((e : End) → CanEnd g e → StaysAway q.ending.are_reborn g e → (place_at left i).moves ≤ e.moves → e.moves ≤ (place_at left i).moves + spare
+  pub arrives_in : (sc : Bool) (x : Whereabouts) (p : Post)
+      → ((e : End) → CanEnd g e → StaysAway q.ending.are_reborn g e → (post_at left i).moves ≤ e.moves → e.moves ≤ (post_at left i).moves + spare
       → has g.kind e.kind e.square x ≡ true → Arrives sc e
       → IsIn g p e) → IsAmong x → Arrives sc (end_at q ends i) → IsIn (guard_at q.guards i) p (end_at q ends i)
   arrives_in sc x p kept on arrives = subst (λ x. IsIn x p (end_at q ends i)) (sym is)
-      (kept (end_at q ends i) the_end the_way the_place.paid (one_spare q men ends left spare i h.paid lt) on arrives)
+      (kept (end_at q ends i) the_end the_way the_post.paid (one_spare q men ends left spare i h.paid lt) on arrives)
 
   -- from where it guards
   pub from_there : (z : ℕ) (x : Whereabouts)
@@ -89,10 +89,10 @@ module _ (q : Quest) (men : List (Option Man)) (ends : Ends) (left : List Place)
   held_there z x clause births (inr d) = subst (λ s. has g.kind (end_at q ends i).kind s x ≡ true) (sym d.there)
       (births (end_at q ends i).kind d.home the_end.be d.lives d.off d.rebirth d.guards)
 
-  -- its place is narrowed
-  pub narrowed_place : (p : Place) → i < length left → IsIn (guard_at q.guards i) p (end_at q ends i) → (place_at left i).moves ≤ p.moves
-      → Holds q men (slice_set left i p) w (spare - (p.moves - (place_at left i).moves)) theirs ends
-  narrowed_place p room inside more = placed q men ends left w spare theirs i p h lt room inside more
+  -- its post is narrowed
+  pub narrowed_post : (p : Post) → i < length left → IsIn (guard_at q.guards i) p (end_at q ends i) → (post_at left i).moves ≤ p.moves
+      → Holds q men (slice_set left i p) w (spare - (p.moves - (post_at left i).moves)) theirs ends
+  narrowed_post p room inside more = paid_post q men ends left w spare theirs i p h lt room inside more
 
 -- one guard more doesn't hold z
 pub none_next : (q : Quest) (ends : Ends) (z i : ℕ) → ((m : ℕ) → m < i → DoesHold q ends z m → ⊥) → (DoesHold q ends z i → ⊥)
@@ -103,7 +103,7 @@ none_next q ends z i before here m lt does = elim (cases_eq m i) [
 ]
 
 -- where no guard holds z, a blocker is there
-pub blocker_there : (q : Quest) (men : List (Option Man)) (ends : Ends) (left : List Place) (w spare theirs z : ℕ) → Holds q men left w spare theirs ends
+pub blocker_there : (q : Quest) (men : List (Option Man)) (ends : Ends) (left : List Post) (w spare theirs z : ℕ) → Holds q men left w spare theirs ends
     → z < 64 → (bit_at w z == 1) ≡ true → ((m : ℕ) → m < q.count → DoesHold q ends z m → ⊥)
     → (s : ℕ) × (s < 64) × (is_blocker men (other q.colour) s ≡ true) × ((ends s).square ≡ z) × ((ends s).taken ≡ false)
 blocker_there q men ends left w spare theirs z h small on none = elim (h.holds z small on) [

@@ -42,7 +42,7 @@ fn lines_from(colour: Colour, kind: Kind, squares: Squares) -> Squares {
 }
 
 impl Guard {
-    // Returns a man without moves, which fills a place that isn't used.
+    // Returns a man without moves, which fills an entry that isn't used.
     pub(crate) fn unused() -> Guard {
         Guard {
             kind: Kind::King,

@@ -17,13 +17,13 @@ use pop_stipulation::Goal;
 
 /// Where a guard may end, and the fewest moves in which it gets to one of these squares.
 #[derive(Clone, Copy)]
-pub(crate) struct Place {
+pub(crate) struct Post {
     pub(crate) squares: Whereabouts,
     pub(crate) moves: usize,
 }
 
-/// The places of the guards.
-pub(crate) type Places = [Place; MEN];
+/// The posts of the guards.
+pub(crate) type Posts = [Post; MEN];
 
 /// Squares that the guards may guard, which guide the search.
 pub(crate) type Sights = [Squares; MEN];
@@ -52,23 +52,23 @@ pub(crate) struct Quest {
     pub(crate) blockable: Blocks,
 }
 
-// Returns the place with these squares instead, if the guard gets to one of them in at most `spare` moves
+// Returns the post with these squares instead, if the guard gets to one of them in at most `spare` moves
 // more.
 #[inline(always)]
 pub(crate) fn narrowed(
     guard: &Guard,
-    place: &Place,
+    post: &Post,
     squares: &Whereabouts,
     spare: usize,
-) -> Option<Place>
-    ensures within { IfSome result (λ p. (place.now.moves ≤ p.moves)
-        × (p.moves ≤ place.now.moves + spare)) }
-    ensures kept { (e : End) → CanEnd guard.now e → place.now.moves ≤ e.moves
-        → e.moves ≤ place.now.moves + spare → has guard.now.kind e.kind e.square squares.now ≡ true
+) -> Option<Post>
+    ensures within { IfSome result (λ p. (post.now.moves ≤ p.moves)
+        × (p.moves ≤ post.now.moves + spare)) }
+    ensures kept { (e : End) → CanEnd guard.now e → post.now.moves ≤ e.moves
+        → e.moves ≤ post.now.moves + spare → has guard.now.kind e.kind e.square squares.now ≡ true
         → MatchOption result ⊥ (λ p. IsIn guard.now p e) }
 {
-    match guard.fewest(squares, place.moves, spare) {
-        Some(moves) => Some(Place {
+    match guard.fewest(squares, post.moves, spare) {
+        Some(moves) => Some(Post {
             squares: *squares,
             moves,
         }),
@@ -76,28 +76,23 @@ pub(crate) fn narrowed(
     }
 }
 
-// Returns the place with these squares instead, if the guard gets to one of them in at most `spare` moves more
+// Returns the post with these squares instead, if the guard gets to one of them in at most `spare` moves more
 // and makes at least two in all.
 #[inline(always)]
-fn narrowed_later(
-    guard: &Guard,
-    place: &Place,
-    squares: &Whereabouts,
-    spare: usize,
-) -> Option<Place>
-    ensures within { IfSome result (λ p. (place.now.moves ≤ p.moves)
-        × (p.moves ≤ place.now.moves + spare)) }
-    ensures kept { (e : End) → CanEnd guard.now e → place.now.moves ≤ e.moves
-        → e.moves ≤ place.now.moves + spare → has guard.now.kind e.kind e.square squares.now ≡ true
+fn narrowed_later(guard: &Guard, post: &Post, squares: &Whereabouts, spare: usize) -> Option<Post>
+    ensures within { IfSome result (λ p. (post.now.moves ≤ p.moves)
+        × (p.moves ≤ post.now.moves + spare)) }
+    ensures kept { (e : End) → CanEnd guard.now e → post.now.moves ≤ e.moves
+        → e.moves ≤ post.now.moves + spare → has guard.now.kind e.kind e.square squares.now ≡ true
         → 2 ≤ e.moves → MatchOption result ⊥ (λ p. IsIn guard.now p e) }
 {
-    let least = if place.moves > 2 { place.moves } else { 2 };
-    let more = least - place.moves;
+    let least = if post.moves > 2 { post.moves } else { 2 };
+    let more = least - post.moves;
     if more > spare {
         return None;
     }
     match guard.fewest(squares, least, spare - more) {
-        Some(moves) => Some(Place {
+        Some(moves) => Some(Post {
             squares: *squares,
             moves,
         }),
@@ -105,33 +100,33 @@ fn narrowed_later(
     }
 }
 
-// Returns the place with these squares instead, if the guard gets to one of them in at most `spare` moves more
+// Returns the post with these squares instead, if the guard gets to one of them in at most `spare` moves more
 // and checks from there. A knight or pawn has to arrive: a knight that stands there leaves and comes back, and a
 // pawn doesn't come back. In Circe any man may check.
 fn checking(
     quest: &Quest,
     guard: &Guard,
-    place: &Place,
+    post: &Post,
     squares: &Whereabouts,
     spare: usize,
-) -> Option<Place>
-    ensures within { IfSome result (λ p. (place.now.moves ≤ p.moves)
-        × (p.moves ≤ place.now.moves + spare)) }
+) -> Option<Post>
+    ensures within { IfSome result (λ p. (post.now.moves ≤ p.moves)
+        × (p.moves ≤ post.now.moves + spare)) }
     ensures kept { (e : End) → CanEnd guard.now e → StaysAway quest.now.ending.are_reborn guard.now e
-        → place.now.moves ≤ e.moves
-        → e.moves ≤ place.now.moves + spare → has guard.now.kind e.kind e.square squares.now ≡ true
+        → post.now.moves ≤ e.moves
+        → e.moves ≤ post.now.moves + spare → has guard.now.kind e.kind e.square squares.now ≡ true
         → Arrives quest.now.ending.standing_checks e
         → MatchOption result ⊥ (λ p. IsIn guard.now p e) }
 {
     if quest.ending.standing_checks || quest.ending.are_reborn {
-        return narrowed(guard, place, squares, spare);
+        return narrowed(guard, post, squares, spare);
     }
     let away = squares.without(&Whereabouts::at(guard.from));
     let late = !guard.chain[1].meets(&away);
     match guard.kind {
-        Kind::Pawn => narrowed(guard, place, &away, spare),
-        Kind::Knight if late => narrowed_later(guard, place, squares, spare),
-        _ => narrowed(guard, place, squares, spare),
+        Kind::Pawn => narrowed(guard, post, &away, spare),
+        Kind::Knight if late => narrowed_later(guard, post, squares, spare),
+        _ => narrowed(guard, post, squares, spare),
     }
 }
 
@@ -167,7 +162,7 @@ impl Quest {
     #[inline(always)]
     fn hardest(
         &self,
-        places: &Places,
+        posts: &Posts,
         sights: &Sights,
         squares: Squares,
         ours: usize,
@@ -181,7 +176,7 @@ impl Quest {
         let mut twice = 0u64;
         let mut thrice = 0u64;
         for i in 0..self.count {
-            let most = places[i].moves.saturating_add(ours).saturating_add(1);
+            let most = posts[i].moves.saturating_add(ours).saturating_add(1);
             let most = if most < MOVES { most } else { MOVES - 1 };
             let sight = sights[i] & self.guards[i].chain[most].anywhere();
             thrice |= twice & sight;
@@ -216,11 +211,11 @@ fn taken_from(squares: Squares, square: Square) -> Squares
     squares & !(1u64 << square.index())
 }
 
-/// Returns whether guards in these places, which make at most `ours` moves more, and blockers that make at
+/// Returns whether guards in these posts, which make at most `ours` moves more, and blockers that make at
 /// most `theirs` may hold the squares of `unheld`. It says no only if they can't.
 pub(crate) fn can_hold(
     quest: &Quest,
-    places: &Places,
+    posts: &Posts,
     sights: &Sights,
     unheld: Squares,
     ours: usize,
@@ -228,20 +223,20 @@ pub(crate) fn can_hold(
 ) -> bool
     requires { quest.now.count ≤ 8 }
     ensures { (men : List (Option Man)) (ends : Ends)
-        → Holds quest.now men places.now unheld ours theirs ends → result ≡ true }
+        → Holds quest.now men posts.now unheld ours theirs ends → result ≡ true }
 {
-    let Some(square) = quest.hardest(places, sights, unheld, ours, theirs) else {
+    let Some(square) = quest.hardest(posts, sights, unheld, ours, theirs) else {
         return true;
     };
     let rest = taken_from(unheld, square);
-    let mut left = *places;
+    let mut left = *posts;
     let mut seen = *sights;
     let mut spare = ours;
     for i in 0..quest.count {
         let guard = &quest.guards[i];
-        let place = left[i];
+        let post = left[i];
         let guarding = guard.holding(quest.colour, quest.king, square, quest.ending.are_reborn);
-        let kept = narrowed(guard, &place, &place.squares.within(&guarding), spare);
+        let kept = narrowed(guard, &post, &post.squares.within(&guarding), spare);
         if let Some(kept) = kept {
             left[i] = kept;
             seen[i] = guard.sight(quest.colour, &kept.squares, sights[i]);
@@ -250,17 +245,17 @@ pub(crate) fn can_hold(
                 &left,
                 &seen,
                 rest,
-                spare - (kept.moves - place.moves),
+                spare - (kept.moves - post.moves),
                 theirs,
             ) {
                 return true;
             }
             seen[i] = sights[i];
-            let off = narrowed(guard, &place, &place.squares.without(&guarding), spare);
+            let off = narrowed(guard, &post, &post.squares.without(&guarding), spare);
             let Some(off) = off else {
                 return false;
             };
-            spare -= off.moves - place.moves;
+            spare -= off.moves - post.moves;
             left[i] = off;
         }
     }
@@ -275,7 +270,7 @@ pub(crate) fn can_hold(
 fn can_mate_by(
     quest: &Quest,
     checker: usize,
-    places: &Places,
+    posts: &Posts,
     unheld: Squares,
     ours: usize,
     theirs: usize,
@@ -283,17 +278,17 @@ fn can_mate_by(
     requires count { quest.now.count ≤ 8 }
     requires checker { checker < quest.now.count }
     ensures { (men : List (Option Man)) (ends : Ends)
-        → Holds quest.now men places.now unheld ours theirs ends
+        → Holds quest.now men posts.now unheld ours theirs ends
         → DoesCheck quest.now ends checker → result ≡ true }
 {
     let guard = &quest.guards[checker];
-    let place = places[checker];
+    let post = posts[checker];
     let guarding = guard.guarding(quest.colour, quest.king, quest.king);
-    let squares = place.squares.within(&guarding);
-    let Some(kept) = checking(quest, guard, &place, &squares, ours) else {
+    let squares = post.squares.within(&guarding);
+    let Some(kept) = checking(quest, guard, &post, &squares, ours) else {
         return false;
     };
-    let mut left = *places;
+    let mut left = *posts;
     left[checker] = kept;
     let mut sights = [Squares::MAX; MEN];
     sights[checker] = guard.sight(quest.colour, &kept.squares, Squares::MAX);
@@ -302,27 +297,27 @@ fn can_mate_by(
         &left,
         &sights,
         unheld,
-        ours - (kept.moves - place.moves),
+        ours - (kept.moves - post.moves),
         theirs,
     )
 }
 
-/// Returns whether guards in these places, which make at most `ours` moves more, and blockers that make at
+/// Returns whether guards in these posts, which make at most `ours` moves more, and blockers that make at
 /// most `theirs` may hold the squares of `unheld` while a guard checks. It says no only if they can't.
 pub(crate) fn can_mate(
     quest: &Quest,
-    places: &Places,
+    posts: &Posts,
     unheld: Squares,
     ours: usize,
     theirs: usize,
 ) -> bool
     requires { quest.now.count ≤ 8 }
     ensures { (men : List (Option Man)) (ends : Ends) (i : ℕ)
-        → Holds quest.now men places.now unheld ours theirs ends → i < quest.now.count
+        → Holds quest.now men posts.now unheld ours theirs ends → i < quest.now.count
         → DoesCheck quest.now ends i → result ≡ true }
 {
     for i in 0..quest.count {
-        if can_mate_by(quest, i, places, unheld, ours, theirs) {
+        if can_mate_by(quest, i, posts, unheld, ours, theirs) {
             return true;
         }
     }

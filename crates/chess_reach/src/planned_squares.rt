@@ -9,12 +9,12 @@ ghost use Rattle.chess_core.specs.declared.man.Kind.TheVariants.{King};
 ghost use Rattle.chess_core.specs.declared.man.Man.{Man};
 ghost use Rattle.chess_reach.specs.Reach.{guards};
 ghost use Rattle.chess_reach.specs.ties.Guards.{guard_at, is_blocker};
-ghost use Rattle.chess_reach.specs.ties.Hold.{Captures, Holds, IsApart, IsQuestOf, place_at};
+ghost use Rattle.chess_reach.specs.ties.Hold.{Captures, Holds, IsApart, IsQuestOf, post_at};
 ghost use Rattle.chess_reach.specs.ties.Ways.{nowhere};
 
 use crate::blocks::{Blocks, all_blockable, blocks_of};
 use crate::guards::{Guard, MEN, list_guards};
-use crate::hold::{Ending, Place, Places, Quest, can_hold, can_mate, narrowed};
+use crate::hold::{Ending, Post, Posts, Quest, can_hold, can_mate, narrowed};
 use crate::ways::{MOVES, chain_of};
 use crate::whereabouts::Whereabouts;
 use chess_attacks::leaps::king_leaps;
@@ -31,35 +31,35 @@ fn unheld_squares(king: Square, standing: Squares) -> Squares
 }
 
 // Returns where the guards may end within `most` moves.
-fn first_places(quest: &Quest, most: usize) -> Places
+fn first_posts(quest: &Quest, most: usize) -> Posts
     requires count { quest.now.count ≤ 8 }
     requires moves { most < 9 }
     ensures { (i : ℕ) → i < quest.now.count
-        → place_at result i ≡ record {
+        → post_at result i ≡ record {
           squares = slice_index_or (guard_at quest.now.guards i).chain most nowhere;
           moves = 0;
         } }
 {
-    let mut places = [Place {
+    let mut posts = [Post {
         squares: Whereabouts::nowhere(),
         moves: 0,
     }; MEN];
     for i in 0..quest.count {
-        places[i] = Place {
+        posts[i] = Post {
             squares: quest.guards[i].chain[most],
             moves: 0,
         };
     }
-    places
+    posts
 }
 
 // Keeps the mating king apart from the other, and returns the moves that are left of `most`; `None` if it
 // can't get away.
-fn keep_apart(quest: &Quest, places: &mut Places, most: usize) -> Option<usize>
+fn keep_apart(quest: &Quest, posts: &mut Posts, most: usize) -> Option<usize>
     requires count { quest.now.count ≤ 8 }
     ensures { (men : List (Option Man)) (ends : Ends) (w theirs : ℕ)
-        → Holds quest.now men places.old w most theirs ends → IsApart quest.now ends
-        → MatchOption result ⊥ (λ spare. Holds quest.now men places.new w spare theirs ends) }
+        → Holds quest.now men posts.old w most theirs ends → IsApart quest.now ends
+        → MatchOption result ⊥ (λ spare. Holds quest.now men posts.new w spare theirs ends) }
 {
     quest.king.show_below_64();
     let near = Whereabouts {
@@ -70,20 +70,20 @@ fn keep_apart(quest: &Quest, places: &mut Places, most: usize) -> Option<usize>
     let mut spare = most;
     for i in 0..quest.count {
         let guard = &quest.guards[i];
-        let place = places[i];
+        let post = posts[i];
         if guard.kind.is(Kind::King) {
-            let off = narrowed(guard, &place, &place.squares.without(&near), spare);
+            let off = narrowed(guard, &post, &post.squares.without(&near), spare);
             let Some(off) = off else {
                 return None;
             };
-            spare -= off.moves - place.moves;
-            places[i] = off;
+            spare -= off.moves - post.moves;
+            posts[i] = off;
         }
     }
     Some(spare)
 }
 
-// Returns whether there may be a plan in which the king, a guard of its own place here, ends on the
+// Returns whether there may be a plan in which the king, a guard of its own square here, ends on the
 // quest's square, and captured men make at least `captured` moves.
 fn may_have_plan(quest: &Quest, king: &Guard, ours: usize, theirs: usize, captured: usize) -> bool
     requires count { quest.now.count ≤ 8 }
@@ -99,15 +99,15 @@ fn may_have_plan(quest: &Quest, king: &Guard, ours: usize, theirs: usize, captur
     let Some(steps) = king.fewest(&Whereabouts::at(quest.king), 0, theirs - captured) else {
         return false;
     };
-    let mut places = first_places(quest, ours);
-    let Some(spare) = keep_apart(quest, &mut places, ours) else {
+    let mut posts = first_posts(quest, ours);
+    let Some(spare) = keep_apart(quest, &mut posts, ours) else {
         return false;
     };
     let unheld = unheld_squares(quest.king, quest.blockable[0]);
     let left = theirs - captured - steps;
     match quest.ending.goal {
-        Goal::Mate => can_mate(quest, &places, unheld, spare, left),
-        Goal::Stalemate => can_hold(quest, &places, &[Squares::MAX; MEN], unheld, spare, left),
+        Goal::Mate => can_mate(quest, &posts, unheld, spare, left),
+        Goal::Stalemate => can_hold(quest, &posts, &[Squares::MAX; MEN], unheld, spare, left),
     }
 }
 

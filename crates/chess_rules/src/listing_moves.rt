@@ -2,6 +2,7 @@
 pub(crate) mod counting;
 pub(crate) mod cursor;
 pub(crate) mod legal_moves;
+pub(crate) mod move_place;
 pub(crate) mod move_test;
 pub(crate) mod moves;
 pub(crate) mod other_moves;

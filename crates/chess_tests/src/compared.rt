@@ -7,7 +7,9 @@ use crate::probe::{is_same, shows};
 use arrayvec::ArrayVec;
 use chess_core::{Board, Colour, Move, Square};
 use chess_mates::{mate_cursor, next_mate};
-use chess_rules::{LegalCursor, Moves, Rules, has_legal_move, in_check, is_mate, play, unplay};
+use chess_rules::{
+    LegalCursor, MovePlace, Moves, Rules, has_legal_move, in_check, is_mate, play, unplay,
+};
 
 // What the chess crates are compared on.
 #[derive(Clone, Copy, Debug)]
@@ -163,16 +165,16 @@ fn gives_mating_moves<R: Rules>(board: &mut Board, choices: &[Choice]) -> bool
     place.next(board).is_none() && place.next(board).is_none()
 }
 
-// Returns the cursor after the first `count` legal moves.
-fn place_after<R: Rules>(board: &mut Board, count: usize) -> Moves<R>
+// Returns the place after the first `count` legal moves.
+fn place_after<R: Rules>(board: &mut Board, count: usize) -> MovePlace
     requires { IsWellFormed board.old }
     ensures { board.new ≡ board.old }
 {
-    let mut place = Moves::<R>::start();
+    let mut moves = LegalCursor::<R>::of(board);
     for _move in 0..count {
-        let _skipped = place.next(board);
+        let _skipped = moves.next(board);
     }
-    place
+    moves.place()
 }
 
 // Returns whether the cursor after the first `skipped` legal moves returns the others up to number

@@ -7,9 +7,8 @@ use crate::plain::Rule;
 use crate::probe::is_same;
 use crate::setup::posed;
 use chess_core::{Board, Diagram, Move};
-use chess_rules::{
-    Circe, Madrasi, Moves, Orthodox, Rules, blocker_squares, cannot_expose, is_simple, play, unplay,
-};
+use chess_rules::unplayed::{blocker_squares, cannot_expose, is_simple};
+use chess_rules::{Circe, Madrasi, Moves, Orthodox, Rules, play, unplay};
 
 // The counts of a walk along all lines of moves.
 #[derive(Clone, Copy)]

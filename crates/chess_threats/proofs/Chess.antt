@@ -16,7 +16,7 @@ pub use Rattle.chess_attacks.proofs.rays.Flips.{diagonal-back, straight-back}
 pub use Rattle.chess_attacks.proofs.Basics.{map, ne_eqb, or_lt, true_from_ne_false}
 pub use Rattle.chess_threats.specs.ties.KingAttack.{AreAdjacent, AreArrivals, AreCaptureSquares, AreCastlingSquares, AreClosed, AreFree, AreGuardsWithout, AreHomes, AreHomesOf, AreHurdles, AreLaterHurdles, AreSpringboards, AreHopTargets, AreThreats, AreWeak, IsApart, IsArrival, IsBarred, IsCaptured, IsCastlingHarmless, IsCheckWord, IsKingZone, IsFlight, IsHarmless, IsHome, IsHurdle, IsLike, IsNoCheck, IsOff, IsQuiet, IsRiskAt, IsSafeMove, IsSafeStep, IsDecidedStep, IsShut, IsShutAt, IsKingAttack, IsKingAttackOf, IsSparedStep, IsHopped, IsUnguarded, IsUnhopped, IsUntaken, IsWeak, IsWeakAt, IsWhole, KeepsFlight, KeepsFlightBeside, LeavesOne, LeavesUntaken, MayRide, moves_on_fairy_lines}
 pub use Rattle.chess_threats.specs.ties.LastingFlights.{AreGuarded, AreNear, KeepsOne, LeaveOne}
-pub use Rattle.chess_threats.specs.ties.Threats.{AreMere, ArePlain, AreRisky, AreThreatsOf, IsMereMove, IsPassing, IsPlainMove, ThreatsSeen}
+pub use Rattle.chess_threats.specs.ties.Threats.{AreMere, ArePlain, AreRisky, AreThreatsOf, IsMereMove, IsUncontested, IsPlainMove, ThreatsSeen}
 pub use Rattle.chess_threats.specs.declared.king_attack.KingAttack.{KingAttack}
 pub use Rattle.chess_attacks.proofs.rays.Landing.{any_false, not_yet}
 pub use Rattle.std.proofs.lemmas.Nat.Bits.{bit_at_above}

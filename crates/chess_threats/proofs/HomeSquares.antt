@@ -30,7 +30,7 @@ pub pawn_home_on : (c : Colour) (s k w : ℕ) → ((t : ℕ) → rebirth c Pawn 
     → w ≡ word (λ q. is_square (square_at (file_of s) k) q) → (t r : ℕ) → file_of t ≡ file_of s → rebirth c Pawn t ≡ Some r → (bit_at w r == 1) ≡ true
 pawn_home_on c s k w home only t r file h = search (rules, word_has, rebirth_small, eq-eqb)
 
--- for `homes_on`: pawns
+-- for `Homes`: pawns
 pub pawn_homes_are : (men : List (Option Man)) (c : Colour) (l w : ℕ) → l ≡ squares_of men c Pawn
     → ((s : ℕ) → s < 64 → (bit_at l s == 1) ≡ true → (t r : ℕ) → file_of t ≡ file_of s → rebirth c Pawn t ≡ Some r → (bit_at w r == 1) ≡ true)
     → (k : Kind) → k ≡ Pawn → AreHomesOf men c k w

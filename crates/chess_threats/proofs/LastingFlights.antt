@@ -39,11 +39,8 @@ counts_once b Rook may = (refl, refl)
 counts_once b Bishop may = (refl, refl)
 counts_once b k may = (refl, may)
 
--- for `KindTargets`: a pawn's are its advances, and nothing promotes to a king or pawn
+-- for `KindTargets`
 module _ (a : Attackers) (p : ℕ) where
-  pub unpromoting : (k : Kind) (r w : ℕ) → is_promotion a.fairy_promotions k ≡ false → AreTargetsOf a k w → AreKindTargets a p k r w
-  unpromoting k r w never are = record { inside = λ reached. are; promoted = λ same may. absurd (false≢true (sym never ∙ may)) }
-
   -- a piece's are what it reaches
   pub reached_targets : (k : Kind) (r : ℕ) → same_kind k Pawn ≡ false → same_kind k King ≡ false
       → (counts_as k ≡ k → is_promotion a.fairy_promotions k ≡ false) → AreKindTargets a p k r r

@@ -5,7 +5,7 @@ pub mod HomeSquares
 pub mod HoppedFlights
 pub mod KingAttacks
 pub mod LastingFlights
-pub mod Passing
+pub mod PlainMoves
 pub mod Promotions
 pub mod QuietCastling
 pub mod Risks

@@ -240,7 +240,7 @@ module _ (rule : RuleSet) (p : Position) (m : Move) (x : Man) (v : KingAttack) (
     uncrossed pawn = rw here (elim (cases_Bool (is_double_step x m)) [
       | inr single ↦ rw single refl
       | inl double ↦ rw double (false_by _ (λ h. let at : halfway m ≡ n.to = eqb-true (halfway m) n.to h in
-          cc (i.plain.passing.freely double q n.from y from_small (omega (arith, at, to)) stood_y (enemy_y ∙ ap other (sym is.mine)) pawn, goes_y)))
+          cc (i.plain.uncontested.freely double q n.from y from_small (omega (arith, at, to)) stood_y (enemy_y ∙ ap other (sym is.mine)) pawn, goes_y)))
     ])
 
     captures_q : (s : ℕ) → capture_square q y n ≡ Some s → s ≡ n.to
@@ -341,7 +341,7 @@ module _ (rule : RuleSet) (p : Position) (m : Move) (x : Man) (v : KingAttack) (
             absurd (unfree (other p.turn) (man_on q.men n.to) (rw turn_q at is_n.arrival) (rw (← kept, ← men_q) at enemy))
       ]
 
-      -- hurdles stay, or the man that captures one takes its place
+      -- hurdles stay, or the man that captures one replaces it
       stays_r : (e : ℕ) → e < 64 → (bit_at v.hurdles e == 1) ≡ true → e ≢ m.from → e ≢ n.from → is_some (man_on r.men e) ≡ true
       stays_r e inside on left off =
           search (rules, same_or_new e, some_stays q y n e captures_q (omega (arith, to, well_q.size)) off (stays_q e inside on left))

@@ -6,7 +6,7 @@ use Rattle.chess_flights.proofs.Bitboards.{denied_on}
 use Rattle.chess_threats.proofs.LastingFlights.{no_mate_after as flight_after}
 use Rattle.chess_threats.proofs.Barring.{barred_is_illegal}
 use Rattle.chess_flights.proofs.Fleeing.{king_on}
-use Rattle.chess_threats.proofs.Passing.{king_plain}
+use Rattle.chess_threats.proofs.PlainMoves.{king_plain}
 use Rattle.chess_threats.proofs.Sparing.{no_mate_after}
 
 -- no step stays where it begins

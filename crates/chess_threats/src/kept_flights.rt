@@ -11,7 +11,7 @@ use crate::steps::{exact_steps, flightless_steps};
 use chess_attacks::Rules;
 use chess_attacks::leaps::king_leaps;
 use chess_core::{Board, Square, Squares};
-use chess_rules::SquareFilter;
+use chess_rules::unplayed::SquareFilter;
 use std::marker::Model;
 
 /// The flights of the king of the side to move, as a filter: it removes moves after which the king has a

@@ -13,12 +13,11 @@ ghost use Rattle.chess_attacks.specs.ties.Lines.{AreReached};
 
 use chess_attacks::unblocked::unblocked_reach;
 use chess_attacks::words::{highest, next_bit, only, pop_first};
-use chess_core::square::LAST_RANKS;
-use chess_core::{Board, Colour, Kind, Man, Move, Square, Squares};
+use chess_core::{Board, Colour, Kind, LAST_RANKS, Man, Move, Square, Squares};
 use chess_flights::approach_squares::open_approaches;
 use chess_flights::attackers::Attackers;
 use chess_flights::by_kind::{ByKind, ForKind, for_all, for_each_kind, is_for_all, union_of};
-use chess_rules::unblocked_targets;
+use chess_rules::unplayed::unblocked_targets;
 
 // Supersets of the squares where each kind of a side's men may be after one move on an otherwise empty
 // board (`squares`), and of the squares that they reach now (`guarded`). A promoted rook or bishop counts

@@ -32,7 +32,7 @@ use chess_flights::flights::{
 };
 use chess_flights::free_steps::{free_steps, none_hops, unsimple_squares};
 use chess_flights::guards::{leapt_squares, rider_reach};
-use chess_rules::{SquareFilter, capture_square, is_simple};
+use chess_rules::unplayed::{SquareFilter, capture_square, is_simple};
 
 // Returns the occupancy after the enemy king, lifted from `king`, is put on `to`; the king isn't among
 // the standing men.

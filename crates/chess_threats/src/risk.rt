@@ -1,6 +1,6 @@
 //! The risk of a king: the squares where the arrival of a man of its side might allow mate, computed
 //! before that side moves.
-ghost use Rattle.std.specs.Prelude.{◌≡◌, ◌≢◌, ◌<◌, ◌==◌, if◌then◌else◌, ℕ, IfSome, true, false};
+ghost use Rattle.std.specs.Prelude.{◌≡◌, ◌≢◌, ◌<◌, ◌==◌, ℕ, IfSome, true, false};
 ghost use Rattle.std.specs.Int.{bit_at};
 ghost use Rattle.chess_core.specs.Steps.{gait_of, is_hopper};
 ghost use Rattle.chess_core.specs.declared.man.Kind.{Kind};
@@ -11,7 +11,7 @@ ghost use Rattle.chess_threats.specs.declared.king_attack.KingAttack.{KingAttack
 ghost use Rattle.chess_flights.specs.ties.Attackers.{IsAttacker};
 ghost use Rattle.chess_flights.specs.ties.ByKind.{value_for};
 ghost use Rattle.chess_flights.specs.ties.Approaches.{IsLeft, MayBecome};
-ghost use Rattle.chess_threats.specs.ties.KingAttack.{AreArrivals, AreLaterHurdles, AreHopTargets, AreThreats, AreWeak, IsCheckWord, IsKingZone, IsHarmless, IsMet, IsNoCheck, IsOff, IsRiskAt, IsRiskAfterLeaving, IsSafeMove, IsKingAttack, IsWeak, IsWhole, LeavesOne, LeavesUntaken};
+ghost use Rattle.chess_threats.specs.ties.KingAttack.{AreArrivals, AreLaterHurdles, AreHopTargets, AreThreats, AreWeak, IsCheckWord, IsKingZone, IsHarmless, IsMet, IsNoCheck, IsOff, IsRiskAt, IsRiskAfterLeaving, IsSafeMove, IsKingAttack, IsWeak, IsWhole, LeavesOne, LeavesUntaken, part_of};
 ghost use Rattle.chess_flights.specs.ties.Guards.{IsReached};
 
 use crate::guards_without::{Guards, guards_without};
@@ -24,14 +24,13 @@ use crate::king_zone::{
 use chess_attacks::reach::reach_over;
 use chess_attacks::unblocked::unblocked_reach;
 use chess_attacks::words::{contains, next_bit, only, pop_first};
-use chess_core::square::LAST_RANKS;
-use chess_core::{Colour, Kind, Man, Square, Squares};
+use chess_core::{Colour, Kind, LAST_RANKS, Man, Square, Squares};
 use chess_flights::approach_squares::open_approaches;
 use chess_flights::attackers::Attackers;
 use chess_flights::by_kind::{ByKind, ForKind, for_each_kind, union_of};
 use chess_flights::guards::{reach_from, rider_reach};
 use chess_flights::pawn_approaches::pawns_before;
-use chess_rules::unblocked_targets;
+use chess_rules::unplayed::unblocked_targets;
 
 // The squares where a defender's arrival might allow mate (`critical`), and the squares of all lines on
 // which a hurdle matters (`lines`).
@@ -413,23 +412,23 @@ impl ForKind<Squares> for KindRisk<'_> {
     }
 }
 
-// The lines of a kind's risk, or else its critical squares.
+// The squares of a kind's risk: its critical squares, or its lines.
 #[derive(Drop)]
-struct RiskPart {
-    lines: bool,
+pub(crate) enum RiskPart {
+    Critical,
+    Lines,
 }
 
 impl ForKind<Risk> for RiskPart {
     type Out = Squares;
 
-    ghost holds = { λ f k r w. w ≡ if f.lines then r.lines else r.critical };
+    ghost holds = { λ f k r w. w ≡ part_of f r };
 
     #[inline(always)]
     fn of(&self, _kind: Kind, risk: Risk) -> Squares {
-        if self.lines {
-            risk.lines
-        } else {
-            risk.critical
+        match self {
+            RiskPart::Critical => risk.critical,
+            RiskPart::Lines => risk.lines,
         }
     }
 }
@@ -443,8 +442,8 @@ fn joined(risks: &ByKind<Risk>) -> Risk
         → (bit_at result.lines t == 1) ≡ true }
 {
     Risk {
-        critical: union_of(&for_each_kind(&RiskPart { lines: false }, risks)),
-        lines: union_of(&for_each_kind(&RiskPart { lines: true }, risks)),
+        critical: union_of(&for_each_kind(&RiskPart::Critical, risks)),
+        lines: union_of(&for_each_kind(&RiskPart::Lines, risks)),
     }
 }
 

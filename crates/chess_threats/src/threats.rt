@@ -8,7 +8,7 @@ ghost use Rattle.chess_core.specs.declared.man.Move.{Move};
 ghost use Rattle.chess_flights.specs.ties.Mates.{mates_after};
 ghost use Rattle.chess_threats.specs.declared.king_attack.KingAttack.{KingAttack};
 ghost use Rattle.chess_threats.specs.ties.KingAttack.{AreThreats, IsRiskAfterLeaving, IsSafeMove, IsKingAttack, IsWhole};
-ghost use Rattle.chess_threats.specs.ties.Threats.{AreMere, ArePlain, AreRisky, AreThreatsOf, IsPassing};
+ghost use Rattle.chess_threats.specs.ties.Threats.{AreMere, ArePlain, AreRisky, AreThreatsOf, IsUncontested};
 ghost use Rattle.chess_rules.specs.Legal.{is_legal};
 ghost use Rattle.chess_rules.specs.Play.{position_after};
 ghost use Rattle.chess_attacks.specs.RuleSet.{captures_are_reborn};
@@ -22,17 +22,16 @@ use crate::steps::{StepCache, cached_risky_steps, exact_steps};
 use chess_attacks::Rules;
 use chess_attacks::leaps::{king_leaps, pawn_advances};
 use chess_attacks::words::only;
-use chess_core::square::LAST_RANKS;
-use chess_core::{Board, Colour, Kind, Man, Move, Square, Squares};
+use chess_core::{Board, Colour, Kind, LAST_RANKS, Man, Move, Square, Squares};
 use chess_flights::pawn_approaches::capturers_before;
-use chess_rules::SquareFilter;
+use chess_rules::unplayed::SquareFilter;
 use std::marker::Model;
 
 // Returns all squares more than a step from `from`, if an enemy pawn could capture on the square ahead
 // of a pawn on `from`; otherwise none.
 fn contested_squares(board: &Board, man: Man, from: Square) -> Squares
     ensures { (m : Move) → m.from ≡ from → m.to < 64 → may_arrive board.now man from m.to ≡ true
-        → (bit_at result m.to == 1) ≡ false → IsPassing board.now man m }
+        → (bit_at result m.to == 1) ≡ false → IsUncontested board.now man m }
 {
     from.show_below_64();
     let enemy = man.colour.other();
@@ -60,7 +59,7 @@ fn special_squares(board: &Board, man: Man, from: Square) -> Squares
 }
 
 // Returns the squares that the man on `from` reaches only by a capture or promotion.
-#[tactic(auto, using(crate::proofs::Passing::piece_mere))]
+#[tactic(auto, using(crate::proofs::PlainMoves::piece_mere))]
 fn altering_squares(board: &Board, man: Man, from: Square) -> Squares
     ensures { AreMere board.now man from result }
 {

@@ -134,8 +134,8 @@ module _ (battle : Battle) (rule : RuleSet) (p : Position) where
       (fewest-start rule aim (suc t) p o) few one
 
 -- a move that is found of those ahead is a defence
-pub found_defence : {rule : RuleSet} {p board : Position} {known : LegalPlace} {found : Option Move} {untried ahead later : List Move} → untried ≡ ahead
-    → Finds rule p board (Some known) found ahead later → Finds rule p board (Some known) found untried later
+pub found_defence : {rule : RuleSet} {p board : Position} {cursor : LegalPlace} {found : Option Move} {untried ahead later : List Move} → untried ≡ ahead
+    → Finds rule p board (Some cursor) found ahead later → Finds rule p board (Some cursor) found untried later
 found_defence e f = record { unchanged = f.unchanged; within = f.within; next = rw e f.next }
 
 -- the defences from the one that was found on
@@ -148,13 +148,13 @@ some_of : (ms : List Move) → list_any (λ m. true) ms ≡ not (eqb (length ms)
 some_of [] = refl
 some_of (m ∷ ms) = grind (arith, nat_tests)
 
-module _ (rule : RuleSet) (p board : Position) (known : Option LegalPlace) (next : Option Move) where
+module _ (rule : RuleSet) (p board : Position) (cursor : Option LegalPlace) (next : Option Move) where
   -- the next one found
-  pub from : (ahead later : List Move) → Finds rule p board known next ahead later → ahead ≡ from_next next later
+  pub from : (ahead later : List Move) → Finds rule p board cursor next ahead later → ahead ≡ from_next next later
   from ahead later f = grind arith
 
   -- the search for the first defence in an order
-  module _ (o : Order) (later : List Move) (f : Finds rule p board known next (moves_ahead rule p o Killer (o.killer - 1)) later) where
+  module _ (o : Order) (later : List Move) (f : Finds rule p board cursor next (moves_ahead rule p o Killer (o.killer - 1)) later) where
     -- finds one exactly where there is a move
     pub found_first : is_some next ≡ can_move (chess Mate rule) p
     found_first = grind (arith, some_of, from, any-start rule p o (λ m. true))

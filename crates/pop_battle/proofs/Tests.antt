@@ -1,12 +1,12 @@
 -- One turn of a test over frames.
-use Rattle.pop_battle.proofs.Words.{AreKnown, Bool, CameFrom, CameFromAt, Ends, Frame, HasCounted, IfNone, IfSome, IsDescending, IsLinked, IsOpenedOn, IsPlaceIn, IsTesting, IsWellFormed, Killer, LegalPlace, List, MatchOption, Move, None, Option, Order, Position, RuleSet, Some, Turns, Undo, [], after_well_formed, ap, arith, cases_lt, chess, cond, delivered_value, drop, drop-append-le, is_legal, joined_value, least_of, length, length-append, length-drop, length-reverse, moves_ahead, may_be_made, list_all, list_any, min, not, pending_value, position, refl, reverse, reverse-append, rules, attacker_to_move, smallest_below, smallest_tree, work_from, work_among, suc, sum_by, sum_by-cons, take, take-append-le, take_all, tested_frame, tests, to_test, to_try, to_try_with, left_at_top, true, undo_of, untried_moves, value, walk_among, walk_count, test_work, ℕ, ◌&&◌, ◌++◌, ◌+◌, ◌-◌, ◌<◌, ◌^◌, ◌||◌, ◌∙◌, ◌∷◌, ◌≡◌, ◌≤◌, ◌⊎◌, position_after, legal_moves, Aim}
+use Rattle.pop_battle.proofs.Words.{AreCursors, Bool, CameFrom, CameFromAt, Ends, Frame, HasCounted, IfNone, IfSome, IsDescending, IsLinked, IsOpenedOn, IsPlaceIn, IsTesting, IsWellFormed, Killer, LegalPlace, List, MatchOption, Move, None, Option, Order, Position, RuleSet, Some, Turns, Undo, [], after_well_formed, ap, arith, cases_lt, chess, cond, delivered_value, drop, drop-append-le, is_legal, joined_value, least_of, length, length-append, length-drop, length-reverse, moves_ahead, may_be_made, list_all, list_any, min, not, pending_value, position, refl, reverse, reverse-append, rules, attacker_to_move, smallest_below, smallest_tree, work_from, work_among, suc, sum_by, sum_by-cons, take, take-append-le, take_all, tested_frame, tests, to_test, to_try, to_try_with, left_at_top, true, undo_of, untried_moves, value, walk_among, walk_count, test_work, ℕ, ◌&&◌, ◌++◌, ◌+◌, ◌-◌, ◌<◌, ◌^◌, ◌||◌, ◌∙◌, ◌∷◌, ◌≡◌, ◌≤◌, ◌⊎◌, position_after, legal_moves, Aim}
 use Rattle.pop_battle.proofs.Orders.{same_start}
 use Rattle.pop_battle.specs.declared.frame.MoveStage.{MoveStage}
 use Rattle.pop_battle.proofs.SmallestTrees.{trees-next, trees-end, trees-start}
 
 -- the frame of a test, moved on
 abbrev pub advanced : Frame → ℕ → MoveStage → Option LegalPlace → Frame
-advanced f place s known = record f { place = place; move_stage = s; known = known }
+advanced f place s cursor = record f { place = place; move_stage = s; cursor = cursor }
 
 -- the moves of a frame that is opened are all its position's moves, in another order
 module _ (rule : RuleSet) (q : Position) (o : Order) where
@@ -150,7 +150,7 @@ module _ (rule : RuleSet) (aim : Aim) (floor : ℕ) (top : Frame) (old new : Lis
     -- a frame that is closed ends the test or hands its value down
     pub close_turns : (count : ℕ) (p : Position) → IsTesting rule p (tests floor old) board → HandsDown p was v
         → MatchOption result (Turns rule aim floor p old new was is after count count) (λ w. Ends rule aim floor p old new was after count count w)
-    unfolding IsLinked IsDescending AreKnown position test_work delivered_value to_try_with to_test
+    unfolding IsLinked IsDescending AreCursors position test_work delivered_value to_try_with to_test
     close_turns count p r hands =
         search (rules, cases_lt, testing_top, length-tests, popped, delivered_value-some, try-some, take_all, take-append-le, length-append)
 
@@ -177,7 +177,7 @@ module _ (rule : RuleSet) (aim : Aim) (floor : ℕ) (top : Frame) (old new : Lis
     left_is = omega (arith, some)
 
     opened_last : (d : Descends None)
-        → tests floor last ≡ tested_frame d.3.order m (undo_of rule board m) (top.left - 1) d.3.known ∷ (advanced top place s kn ∷ tests floor new)
+        → tests floor last ≡ tested_frame d.3.order m (undo_of rule board m) (top.left - 1) d.3.cursor ∷ (advanced top place s kn ∷ tests floor new)
     opened_last d = grind (arith, tests-push, length-append)
 
     decided_last : (v : Bool) → Descends (Some v) → tests floor last ≡ advanced top place s kn ∷ tests floor new
@@ -197,7 +197,7 @@ module _ (rule : RuleSet) (aim : Aim) (floor : ℕ) (top : Frame) (old new : Lis
         → MatchOption is (HasCounted before count 1) (λ _. HasCounted before count
         (smallest_tree aim.battle (chess aim.goal rule) (top.left - 1) (position_after rule
         board m))) → (p : Position) → IsTesting rule p (tests floor old) board → Turns rule aim floor p old last was is after before count
-    unfolding pending_value position test_work to_test to_try IsLinked IsDescending AreKnown
+    unfolding pending_value position test_work to_test to_try IsLinked IsDescending AreCursors
     descend_turns None d before count o tries p r = record {
       testing = rw (opened_last d, d.2) (let t = testing_top p board r in let l = may_be_made rule board m lawful in
           grind (arith, left_is, after_well_formed rule board m t.sound l));
@@ -232,9 +232,9 @@ module _ (rule : RuleSet) (aim : Aim) (floor : ℕ) (top : Frame) (old new : Lis
   top_some p board r = let t = testing_top p board r in search rules
 
   -- what the top frame knows is of the board's position
-  pub top_known : (p board : Position) → IsTesting rule p (tests floor old) board → IfSome top.known (IsPlaceIn rule board)
-  unfolding AreKnown
-  top_known p board r = let f = testing_top p board r in rw f.board_at f.known.0
+  pub top_cursor : (p board : Position) → IsTesting rule p (tests floor old) board → IfSome top.cursor (IsPlaceIn rule board)
+  unfolding AreCursors
+  top_cursor p board r = let f = testing_top p board r in rw f.board_at f.cursors.0
 
   -- there is room for its half-moves
   pub top_room : (N : ℕ) → left_at_top (tests floor old) + length old ≤ N + 1 → length new + top.left ≤ N
@@ -276,7 +276,7 @@ module _ (rule : RuleSet) (aim : Aim) where
       × (value aim.battle (chess aim.goal rule) left p ≡ joined_value aim.battle (chess aim.goal rule) left p (legal_moves rule p))
       → IsUnderway rule aim floor p N (value aim.battle (chess aim.goal rule) left p) under frames None board count
       (before + walk_count (legal_moves rule) (position_after rule) left p) (before + smallest_tree aim.battle (chess aim.goal rule) left p)
-  unfolding pending_value delivered_value IsLinked IsDescending AreKnown position to_test to_try to_try_with
+  unfolding pending_value delivered_value IsLinked IsDescending AreCursors position to_test to_try to_try_with
   begins floor p N left k board before count by undo under frames kn low put within room more one_more at sound d =
       search (rules, length-tests floor under, tests-push, length-append, walk_count-start, fewest-start, rest-start, take-append-le, take_all)
 

@@ -39,7 +39,7 @@ pub use Rattle.pop_battle.specs.ties.Counts.{HasCounted, decided_by}
 unfoldable pub use Rattle.pop_battle.specs.Walks.{walk_count}
 unfoldable pub use Rattle.pop_battle.specs.ties.Counts.{least_of, smallest_below, smallest_tree}
 pub use Rattle.pop_battle.specs.ties.Frames.{CameFrom, CameFromAt, Ends, Frame, IsOpenedOn, IsTesting, Order, Turns, all_moves_of, comes_early, is_at, moves_ahead, move_stages_after, tested_frame, left_at_top, untried_moves}
-unfoldable pub use Rattle.pop_battle.specs.ties.Frames.{AreKnown, IsDescending, IsLinked, belongs, delivered_value, moves_here, moves_later, pending_value, position, work_from, work_among, tests, to_test, to_try, to_try_with, walk_among, test_work}
+unfoldable pub use Rattle.pop_battle.specs.ties.Frames.{AreCursors, IsDescending, IsLinked, belongs, delivered_value, moves_here, moves_later, pending_value, position, work_from, work_among, tests, to_test, to_try, to_try_with, walk_among, test_work}
 pub use Rattle.pop_battle.specs.ties.Marks.{is_for_mate}
 pub use Rattle.pop_battle.specs.ties.Values.{attacker_to_move}
 unfoldable pub use Rattle.pop_battle.specs.ties.Values.{joined_value, value}

@@ -17,23 +17,24 @@ ghost use Rattle.pop_battle.specs.ties.Marks.{is_for_mate};
 use chess_core::{Board, Diagram, Man, Move, Square};
 use chess_mates::mate_cursor;
 use chess_rules::{
-    LegalCursor, Moves, Rules, Undo, has_legal_move, in_check, is_castling, is_mate, is_stalemate,
+    LegalCursor, MovePlace, Rules, Undo, has_legal_move, in_check, is_castling, is_mate,
+    is_stalemate,
 };
 use pop_events::{Mark, Shown, Side};
 use pop_stipulation::Goal;
 
-/// Returns a cursor over the legal moves of the board's position, at `place`. Reuses the cursor `known` if
-/// there is one.
+/// Returns a cursor over the legal moves of the board's position, at `place`. Reuses `cursor` if there
+/// is one.
 pub(crate) fn moves_at<R: Rules>(
-    known: Option<LegalCursor<R>>,
-    place: Moves<R>,
+    cursor: Option<LegalCursor<R>>,
+    place: MovePlace,
     board: &Board,
 ) -> LegalCursor<R>
-    requires known { IfSome known (λ k. IsPlaceIn R.rule board.now k) }
+    requires cursor { IfSome cursor (λ k. IsPlaceIn R.rule board.now k) }
     ensures place { result.place ≡ place }
     ensures within { IsPlaceIn R.rule board.now result }
 {
-    let mut moves = match known {
+    let mut moves = match cursor {
         Some(moves) => moves,
         None => LegalCursor::of(board),
     };
@@ -42,27 +43,27 @@ pub(crate) fn moves_at<R: Rules>(
 }
 
 /// Returns the next legal move after `place` and moves `place` to it, or to the end if there is none.
-/// `known` keeps what has been computed about the position's moves from call to call; it is `None` before
+/// `cursor` keeps what has been computed about the position's moves from call to call; it is `None` before
 /// the first call for a position. The board is unchanged.
 pub fn next_move<R: Rules>(
-    known: &mut Option<LegalCursor<R>>,
-    place: &mut Moves<R>,
+    cursor: &mut Option<LegalCursor<R>>,
+    place: &mut MovePlace,
     board: &mut Board,
 ) -> Option<Move>
     requires well_formed { IsWellFormed board.old }
-    requires known { IfSome known.old (λ k. IsPlaceIn R.rule board.old k) }
+    requires cursor { IfSome cursor.old (λ k. IsPlaceIn R.rule board.old k) }
     ensures unchanged { board.new ≡ board.old }
-    ensures within { IfSome known.new (λ k. IsPlaceIn R.rule board.old k) }
+    ensures within { IfSome cursor.new (λ k. IsPlaceIn R.rule board.old k) }
     ensures next { MatchOption result (moves_after R.rule board.old place.old ≡ [])
         (λ m. (moves_after R.rule board.old place.old
         ≡ m ∷ moves_after R.rule board.old place.new)
         × (is_legal R.rule board.old m ≡ true)) }
     ensures place { place.new ≡ place_of result }
 {
-    if known.is_none() {
-        *known = Some(LegalCursor::<R>::of(board));
+    if cursor.is_none() {
+        *cursor = Some(LegalCursor::<R>::of(board));
     }
-    let Some(moves) = known else {
+    let Some(moves) = cursor else {
         return None;
     };
     moves.go_to(*place);
@@ -74,7 +75,7 @@ pub fn next_move<R: Rules>(
 /// Returns a cursor at some legal move, or `None` if the board's position has none. Tests the killer first.
 #[tactic(auto, using(crate::proofs::Boards::some_move))]
 pub(crate) fn cursor_if_any_move<R: Rules>(
-    killer: Moves<R>,
+    killer: MovePlace,
     board: &mut Board,
 ) -> Option<LegalCursor<R>>
     requires well_formed { IsWellFormed board.old }
@@ -87,7 +88,7 @@ pub(crate) fn cursor_if_any_move<R: Rules>(
     if cursor.next_until(killer, board).is_some() {
         return Some(cursor);
     }
-    cursor.go_to(Moves::start());
+    cursor.go_to(MovePlace::start());
     if cursor.next(board).is_some() {
         return Some(cursor);
     }
@@ -96,7 +97,7 @@ pub(crate) fn cursor_if_any_move<R: Rules>(
 
 /// Returns the place of a legal move that mates, or `None` if no move does. It may be any mating move: the
 /// search tries the killer and the moves after it first, which is faster.
-pub(crate) fn find_mate<R: Rules>(killer: Moves<R>, board: &mut Board) -> Option<Moves<R>>
+pub(crate) fn find_mate<R: Rules>(killer: MovePlace, board: &mut Board) -> Option<MovePlace>
     requires well_formed { IsWellFormed board.old }
     ensures unchanged { board.new ≡ board.old }
     ensures mates { is_some result
@@ -109,7 +110,7 @@ pub(crate) fn find_mate<R: Rules>(killer: Moves<R>, board: &mut Board) -> Option
     if moves.next(board).is_some() {
         return Some(moves.place());
     }
-    moves.go_to(Moves::start());
+    moves.go_to(MovePlace::start());
     if moves.next_until(before, board).is_some() {
         return Some(moves.place());
     }

@@ -3,7 +3,7 @@ ghost use Rattle.std.specs.Prelude.{◌≡◌, ⊤};
 ghost use Rattle.pop_battle.specs.ties.Frames.{unordered};
 
 use chess_core::{Move, Squares};
-use chess_rules::{LegalCursor, Moves, Rules, Undo};
+use chess_rules::{LegalCursor, MovePlace, Rules, Undo};
 use pop_stipulation::Goal;
 use std::alloc::AllocError;
 use std::marker::Model;
@@ -34,13 +34,13 @@ pub enum Early {
 /// How a test orders the moves of a position: two killers, which may be illegal moves, and which moves come
 /// right after them. Contracts see the record `Order` with the same fields.
 #[derive(Clone, Copy)]
-pub struct Order<R: Rules> {
-    pub killer: Moves<R>,
-    pub earlier: Moves<R>,
+pub struct Order {
+    pub killer: MovePlace,
+    pub earlier: MovePlace,
     pub early: Early,
 }
 
-impl<R: Rules> Model for Order<R> {
+impl Model for Order {
     ghost use Rattle.pop_battle.specs.ties.Frames.{Order as Ordering};
 
     ghost Value = { Ordering };
@@ -50,14 +50,14 @@ impl<R: Rules> Model for Order<R> {
     ghost inverse = { λ v. record { killer = v.killer; earlier = v.earlier; early = v.early } };
 }
 
-impl<R: Rules> Order<R> {
+impl Order {
     /// Returns the order that tries all moves one after another.
-    pub fn unordered() -> Order<R>
+    pub fn unordered() -> Order
         ensures { result ≡ unordered }
     {
         Order {
-            killer: Moves::start(),
-            earlier: Moves::start(),
+            killer: MovePlace::start(),
+            earlier: MovePlace::start(),
             early: Early::NoMoves,
         }
     }
@@ -80,14 +80,14 @@ pub struct Frame<R: Rules> {
     pub undo: Undo,
     /// The number of half-moves to try from here.
     pub left: usize,
-    /// What is known of the position's legal moves, once they have been listed.
-    pub known: Option<LegalCursor<R>>,
+    /// The cursor over the position's legal moves, once they have been listed.
+    pub cursor: Option<LegalCursor<R>>,
     /// The move that led here.
     pub by: Move,
-    /// The cursor: the moves up to it have been tried.
-    pub place: Moves<R>,
+    /// The place in the order of moves: the moves up to it have been tried.
+    pub place: MovePlace,
     /// In a test: the order of the moves, and the stage of `place`.
-    pub order: Order<R>,
+    pub order: Order,
     pub move_stage: MoveStage,
     /// In help play: what is known of the lines from here.
     pub line_ends: Option<LineEnds>,
@@ -105,7 +105,7 @@ impl<R: Rules> Model for Frame<R> {
       left = f.left;
       order = f.order;
       move_stage = f.move_stage;
-      known = f.known;
+      cursor = f.cursor;
       line_ends = f.line_ends;
     } };
 
@@ -116,7 +116,7 @@ impl<R: Rules> Model for Frame<R> {
       left = v.left;
       order = v.order;
       move_stage = v.move_stage;
-      known = v.known;
+      cursor = v.cursor;
       line_ends = v.line_ends;
     } };
 }
@@ -141,13 +141,13 @@ impl<R: Rules> Default for Frame<R> {
     #[tactic(auto, unfolding(chess_core::specs::Castling::none_unmoved))]
     fn default() -> Self {
         Frame {
-            place: Moves::start(),
+            place: MovePlace::start(),
             by: Move::default(),
             undo: Undo::default(),
             left: 0,
             order: Order::unordered(),
             move_stage: MoveStage::Others,
-            known: None,
+            cursor: None,
             line_ends: None,
         }
     }

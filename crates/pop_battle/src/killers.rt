@@ -3,7 +3,7 @@ ghost use Rattle.std.specs.List.{copy_within, repeat};
 ghost use Rattle.std.specs.Prelude.{[], ◌<◌, ◌==◌, ◌∷◌, ◌≡◌, if◌then◌else◌, slice_index_or, slice_set};
 ghost use Rattle.pop_stipulation.specs.declared.stipulation.Battle.TheVariants.{Direct};
 
-use chess_rules::{Moves, Rules};
+use chess_rules::MovePlace;
 use pop_stipulation::{Battle, MOST_HALF_MOVES};
 
 /// For each number of half-moves below `MOST_HALF_MOVES`, the last two moves that decided a position with that many
@@ -11,42 +11,42 @@ use pop_stipulation::{Battle, MOST_HALF_MOVES};
 /// killer may be an illegal move there: a bad guess costs only time. A selfmate tries its moves in order,
 /// since the move that decided last is a bad guess.
 #[derive(Drop)]
-pub struct Killers<R: Rules> {
-    places: [Moves<R>; MOST_HALF_MOVES],
-    earlier: [Moves<R>; MOST_HALF_MOVES],
+pub struct Killers {
+    places: [MovePlace; MOST_HALF_MOVES],
+    earlier: [MovePlace; MOST_HALF_MOVES],
 }
 
-impl<R: Rules> Killers<R> {
+impl Killers {
     /// Returns killers that are all at the start, before the first triple.
-    pub fn none() -> Killers<R>
+    pub fn none() -> Killers
         ensures last { result.places ≡ repeat MOST_HALF_MOVES (0 ∷ []) }
         ensures earlier { result.earlier ≡ repeat MOST_HALF_MOVES (0 ∷ []) }
     {
         Killers {
-            places: [Moves::start(); MOST_HALF_MOVES],
-            earlier: [Moves::start(); MOST_HALF_MOVES],
+            places: [MovePlace::start(); MOST_HALF_MOVES],
+            earlier: [MovePlace::start(); MOST_HALF_MOVES],
         }
     }
 
     /// Returns the killer for a position with `left` half-moves left; the start for a selfmate.
-    pub fn of(&self, battle: Battle, left: usize) -> Moves<R>
+    pub fn of(&self, battle: Battle, left: usize) -> MovePlace
         ensures { battle ≡ Direct → left < MOST_HALF_MOVES → result ≡ slice_index_or self.now.places left 0 }
     {
         if battle == Battle::Direct && left < MOST_HALF_MOVES {
             self.places[left]
         } else {
-            Moves::start()
+            MovePlace::start()
         }
     }
 
     /// Returns the second killer for a position with `left` half-moves left; the start for a selfmate.
-    pub fn earlier(&self, battle: Battle, left: usize) -> Moves<R>
+    pub fn earlier(&self, battle: Battle, left: usize) -> MovePlace
         ensures { battle ≡ Direct → left < MOST_HALF_MOVES → result ≡ slice_index_or self.now.earlier left 0 }
     {
         if battle == Battle::Direct && left < MOST_HALF_MOVES {
             self.earlier[left]
         } else {
-            Moves::start()
+            MovePlace::start()
         }
     }
 
@@ -61,7 +61,7 @@ impl<R: Rules> Killers<R> {
 
     /// Records a killer for `left` half-moves; if it differs from the previous one, that becomes the
     /// second.
-    pub fn put(&mut self, left: usize, place: Moves<R>)
+    pub fn put(&mut self, left: usize, place: MovePlace)
         ensures last { left < MOST_HALF_MOVES → self.new.places ≡ slice_set self.old.places left place }
         ensures earlier { left < MOST_HALF_MOVES → self.new.earlier
             ≡ (if slice_index_or self.old.places left 0 == place then self.old.earlier

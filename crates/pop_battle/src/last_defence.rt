@@ -23,14 +23,14 @@ use crate::killers::Killers;
 use crate::move_stages::{next_tried, order_of, place_before};
 use crate::search_state::SearchState;
 use chess_core::{Board, Kind, Move, Square};
-use chess_rules::{LegalCursor, Moves, Rules, play, unplay};
+use chess_rules::{LegalCursor, MovePlace, Rules, play, unplay};
 use chess_threats::KeptFlights;
 use pop_stipulation::{Battle, Goal};
 
 /// Returns whether White, to move, mates at once. The mating move becomes the killer; without one the
 /// killer is cleared.
 #[tactic(auto, using(crate::proofs::Values::last_half_move))]
-pub(crate) fn has_mate<R: Rules>(board: &mut Board, killers: &mut Killers<R>) -> bool
+pub(crate) fn has_mate<R: Rules>(board: &mut Board, killers: &mut Killers) -> bool
     requires well_formed { IsWellFormed board.old }
     ensures unchanged { board.new ≡ board.old }
     ensures value { result ≡ value Direct (chess Mate R.rule) 1 board.old }
@@ -42,7 +42,7 @@ pub(crate) fn has_mate<R: Rules>(board: &mut Board, killers: &mut Killers<R>) ->
 
 /// Returns whether White mates after this move by Black. Counts the position after it.
 #[tactic(auto, using(chess_rules::proofs::LegalMoves::may_be_made))]
-fn lets_mate<R: Rules>(by: Move, board: &mut Board, search_state: &mut SearchState<R>) -> bool
+fn lets_mate<R: Rules>(by: Move, board: &mut Board, search_state: &mut SearchState) -> bool
     requires well_formed { IsWellFormed board.old }
     requires legal { is_legal R.rule board.old by ≡ true }
     ensures unchanged { board.new ≡ board.old }
@@ -58,55 +58,55 @@ fn lets_mate<R: Rules>(by: Move, board: &mut Board, search_state: &mut SearchSta
     mates
 }
 
-/// Returns the next defence to try. The first call after the killer sets up `moves`, which only later
-/// stages need.
+/// Returns the next defence to try. The first call after the killer sets up `cursor`, which only
+/// later stages need.
 fn next_defence<R: Rules>(
-    order: Order<R>,
+    order: Order,
     move_stage: &mut MoveStage,
-    moves: &mut Option<LegalCursor<R>>,
+    cursor: &mut Option<LegalCursor<R>>,
     board: &mut Board,
 ) -> Option<Move>
     requires well_formed { IsWellFormed board.old }
-    requires known { IfSome moves.old (λ k. IsPlaceIn R.rule board.old k) }
-    ensures { Finds R.rule board.old board.new moves.new result
-        (moves_unlooked R.rule board.old order move_stage.old moves.old)
-        (moves_unlooked R.rule board.old order move_stage.new moves.new) }
+    requires cursor { IfSome cursor.old (λ k. IsPlaceIn R.rule board.old k) }
+    ensures { Finds R.rule board.old board.new cursor.new result
+        (moves_unlooked R.rule board.old order move_stage.old cursor.old)
+        (moves_unlooked R.rule board.old order move_stage.new cursor.new) }
 {
-    if moves.is_none() {
+    if cursor.is_none() {
         *move_stage = MoveStage::Earlier;
-        *moves = Some(moves_at::<R>(None, place_before(order, MoveStage::Earlier), board));
+        *cursor = Some(moves_at::<R>(None, place_before::<R>(order, MoveStage::Earlier), board));
     }
-    let Some(known) = moves else {
+    let Some(moves) = cursor else {
         return None;
     };
-    next_tried::<R>(order, move_stage, known, board)
+    next_tried::<R>(order, move_stage, moves, board)
 }
 
 /// Returns the first defence to try: the killer, tested without listing the moves, or the first move after
 /// it.
 #[tactic(auto, unfolding(crate::specs::ties::Frames::moves_here))]
 fn first_defence<R: Rules>(
-    order: Order<R>,
+    order: Order,
     move_stage: &mut MoveStage,
-    moves: &mut Option<LegalCursor<R>>,
+    cursor: &mut Option<LegalCursor<R>>,
     board: &mut Board,
 ) -> Option<Move>
     requires well_formed { IsWellFormed board.old }
-    requires unknown { moves.old ≡ None }
-    ensures { Finds R.rule board.old board.new moves.new result
+    requires unlisted { cursor.old ≡ None }
+    ensures { Finds R.rule board.old board.new cursor.new result
         (moves_ahead R.rule board.old order Killer (order.killer - 1))
-        (moves_unlooked R.rule board.old order move_stage.new moves.new) }
+        (moves_unlooked R.rule board.old order move_stage.new cursor.new) }
 {
-    if let Some(by) = order.killer.legal_move(board) {
+    if let Some(by) = order.killer.legal_move::<R>(board) {
         return Some(by);
     }
-    next_defence::<R>(order, move_stage, moves, board)
+    next_defence::<R>(order, move_stage, cursor, board)
 }
 
 /// Returns the place of the defence that was found last.
-fn place_of_last<R: Rules>(order: Order<R>, moves: &Option<LegalCursor<R>>) -> Moves<R> {
-    match moves {
-        Some(known) => known.place(),
+fn place_of_last<R: Rules>(order: Order, cursor: &Option<LegalCursor<R>>) -> MovePlace {
+    match cursor {
+        Some(moves) => moves.place(),
         None => order.killer,
     }
 }
@@ -114,25 +114,25 @@ fn place_of_last<R: Rules>(order: Order<R>, moves: &Option<LegalCursor<R>>) -> M
 /// Returns the value of a position with two half-moves left in a direct mate, by trying Black's moves in
 /// the order of a test. Counts the position if it has a legal move, and each position after a tried move.
 #[inline(always)]
-fn value_by_trial<R: Rules>(board: &mut Board, search_state: &mut SearchState<R>) -> bool
+fn value_by_trial<R: Rules>(board: &mut Board, search_state: &mut SearchState) -> bool
     requires well_formed { IsWellFormed board.old }
     ensures { EvaluatesMate R.rule Direct 2 board.old board.new search_state.old.opened
         search_state.new.opened result }
 {
     let order = order_of(&search_state.killers, Battle::Direct, 2);
-    let mut moves: Option<LegalCursor<R>> = None;
+    let mut cursor: Option<LegalCursor<R>> = None;
     let mut move_stage = MoveStage::Killer;
-    let mut next = first_defence::<R>(order, &mut move_stage, &mut moves, board);
+    let mut next = first_defence::<R>(order, &mut move_stage, &mut cursor, board);
     if next.is_none() {
         return is_reached_without_move::<R>(Goal::Mate, board);
     }
     search_state.opened = search_state.opened.saturating_add(1);
     while let Some(by) = next {
         if !lets_mate::<R>(by, board, search_state) {
-            search_state.killers.put(2, place_of_last(order, &moves));
+            search_state.killers.put(2, place_of_last(order, &cursor));
             return false;
         }
-        next = next_defence::<R>(order, &mut move_stage, &mut moves, board);
+        next = next_defence::<R>(order, &mut move_stage, &mut cursor, board);
     }
     true
 }
@@ -149,11 +149,11 @@ fn keeps_flight<R: Rules>(board: &mut Board, king: Square) -> bool
         → SomeFails R.rule board.old (allows_mate R.rule board.old) }
 {
     let mut flights = KeptFlights::of::<R>(board, king);
-    let known = LegalCursor::<R>::of(board);
+    let moves = LegalCursor::<R>::of(board);
     let kings = board.squares(board.turn(), Kind::King);
     let men = board.side(board.turn()) & !kings;
-    flights.removes_others() && known.has_removed(&mut flights, board, men)
-        || known.has_removed(&mut flights, board, kings)
+    flights.removes_others() && moves.has_removed(&mut flights, board, men)
+        || moves.has_removed(&mut flights, board, kings)
 }
 
 // The most attackers and the most defenders with which kept flights are computed before any defence is
@@ -191,7 +191,7 @@ fn surely_escapes<R: Rules>(board: &mut Board) -> bool
 #[inline(always)]
 pub(crate) fn value_of_last_defence<R: Rules>(
     board: &mut Board,
-    search_state: &mut SearchState<R>,
+    search_state: &mut SearchState,
 ) -> bool
     requires well_formed { IsWellFormed board.old }
     ensures { EvaluatesMate R.rule Direct 2 board.old board.new search_state.old.opened

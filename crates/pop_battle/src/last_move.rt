@@ -15,7 +15,7 @@ ghost use Rattle.pop_battle.specs.ties.Values.{joined_value, value};
 
 use crate::chess::is_reached_without_move;
 use crate::kept_threats::KeptThreats;
-use crate::search_state::SearchState;
+use crate::search_state::{SearchState, show_fits_u64};
 use chess_core::{Board, Move};
 use chess_mates::every_move_mates;
 use chess_rules::{LegalCursor, Rules, play, unplay};
@@ -56,14 +56,13 @@ fn next_unquiet<R: Rules>(
     counted: &mut u64,
 ) -> Option<Move>
     requires well_formed { IsWellFormed board.old }
-    requires known { IsPlaceIn R.rule board.old moves.old }
+    requires place { IsPlaceIn R.rule board.old moves.old }
     ensures unchanged { board.new ≡ board.old }
     ensures within { IsPlaceIn R.rule board.old moves.new }
     ensures next { IsNextKept R.rule board.old (must_reply_with_mate R.rule board.old)
         moves.old.place moves.new.place counted.old counted.new result }
 {
-    // For the proof: the count is below 2^64.
-    let _counted = *counted;
+    show_fits_u64(*counted);
     if !steps.are_known(board) {
         return moves.next(board);
     }
@@ -80,7 +79,7 @@ fn some_forces_mate<R: Rules>(
     counted: &mut u64,
 ) -> bool
     requires well_formed { IsWellFormed board.old }
-    requires known { IsPlaceIn R.rule board.old moves }
+    requires place { IsPlaceIn R.rule board.old moves }
     requires none { counted.old ≡ 0 }
     ensures unchanged { board.new ≡ board.old }
     ensures value { result ≡ joined_value Selfmate (chess Mate R.rule) 2 board.old
@@ -104,7 +103,7 @@ fn some_forces_mate<R: Rules>(
 /// it has a legal move.
 pub(crate) fn value_of_last_move<R: Rules>(
     board: &mut Board,
-    search_state: &mut SearchState<R>,
+    search_state: &mut SearchState,
 ) -> bool
     requires well_formed { IsWellFormed board.old }
     ensures { EvaluatesMate R.rule Selfmate 2 board.old board.new search_state.old.opened

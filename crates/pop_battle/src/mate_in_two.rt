@@ -22,11 +22,7 @@ use pop_stipulation::Battle;
 
 /// Returns whether White mates next after this move, whatever Black's defence.
 #[tactic(auto, using(chess_rules::proofs::LegalMoves::may_be_made))]
-fn leaves_no_defence<R: Rules>(
-    by: Move,
-    board: &mut Board,
-    search_state: &mut SearchState<R>,
-) -> bool
+fn leaves_no_defence<R: Rules>(by: Move, board: &mut Board, search_state: &mut SearchState) -> bool
     requires well_formed { IsWellFormed board.old }
     requires legal { is_legal R.rule board.old by ≡ true }
     ensures unchanged { board.new ≡ board.old }
@@ -45,7 +41,7 @@ fn leaves_no_defence<R: Rules>(
 
 /// Returns whether White, to move, mates in at most two moves, trying the moves in the order of a test.
 /// Counts the position even if it has no legal move.
-pub(crate) fn mates_in_two<R: Rules>(board: &mut Board, search_state: &mut SearchState<R>) -> bool
+pub(crate) fn mates_in_two<R: Rules>(board: &mut Board, search_state: &mut SearchState) -> bool
     requires well_formed { IsWellFormed board.old }
     ensures { EvaluatesMate R.rule Direct 3 board.old board.new search_state.old.opened
         search_state.new.opened result }

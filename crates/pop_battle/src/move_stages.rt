@@ -13,7 +13,7 @@ use crate::frame::{Early, MoveStage, Order};
 use crate::killers::Killers;
 use chess_core::{Board, Move};
 use chess_mates::{aims_at_king, next_aimed};
-use chess_rules::{LegalCursor, Moves, Rules};
+use chess_rules::{LegalCursor, MovePlace, Rules};
 use pop_stipulation::Battle;
 
 /// Returns which moves come right after the killers: those that give check or attack next to the king, if
@@ -27,7 +27,7 @@ fn early_moves(battle: Battle, left: usize) -> Early {
 }
 
 /// Returns the order in which to try the moves of a position with `left` half-moves left.
-pub(crate) fn order_of<R: Rules>(killers: &Killers<R>, battle: Battle, left: usize) -> Order<R> {
+pub(crate) fn order_of(killers: &Killers, battle: Battle, left: usize) -> Order {
     Order {
         killer: killers.of(battle, left),
         earlier: killers.earlier(battle, left),
@@ -47,13 +47,7 @@ fn comes_early(early: Early, by: &Move, board: &Board) -> bool
 
 /// Returns whether the move, whose place is `place`, belongs to the stage.
 #[tactic(auto, unfolding(crate::specs::ties::Frames::belongs))]
-fn belongs<R: Rules>(
-    order: Order<R>,
-    move_stage: MoveStage,
-    place: Moves<R>,
-    by: &Move,
-    board: &Board,
-) -> bool
+fn belongs(order: Order, move_stage: MoveStage, place: MovePlace, by: &Move, board: &Board) -> bool
     requires { place ≡ place_of (Some by.now) }
     ensures { result ≡ belongs board.now order move_stage by.now }
 {
@@ -72,20 +66,20 @@ fn belongs<R: Rules>(
 
 /// Returns the next move after the cursor that belongs to the stage.
 fn next_of_move_stage<R: Rules>(
-    order: Order<R>,
+    order: Order,
     move_stage: MoveStage,
     moves: &mut LegalCursor<R>,
     board: &mut Board,
 ) -> Option<Move>
     requires well_formed { IsWellFormed board.old }
-    requires known { IsPlaceIn R.rule board.old moves.old }
+    requires place { IsPlaceIn R.rule board.old moves.old }
     ensures { Finds R.rule board.old board.new (Some moves.new) result
         (filter (belongs board.old order move_stage) (moves_after R.rule board.old moves.old.place))
         (filter (belongs board.old order move_stage)
         (moves_after R.rule board.old moves.new.place)) }
 {
     while let Some(by) = moves.next(board) {
-        if belongs::<R>(order, move_stage, moves.place(), &by, board) {
+        if belongs(order, move_stage, moves.place(), &by, board) {
             return Some(by);
         }
     }
@@ -93,7 +87,7 @@ fn next_of_move_stage<R: Rules>(
 }
 
 /// Returns whether the place is that of a killer.
-fn is_killer<R: Rules>(order: Order<R>, place: Moves<R>) -> bool
+fn is_killer(order: Order, place: MovePlace) -> bool
     ensures { result ≡ (place == order.killer || place == order.earlier) }
 {
     place.is(order.killer) || place.is(order.earlier)
@@ -101,13 +95,9 @@ fn is_killer<R: Rules>(order: Order<R>, place: Moves<R>) -> bool
 
 /// Returns the next move after the cursor that gives check or attacks next to the king and is no killer.
 #[tactic(auto, using(crate::proofs::Orders::aimed_filtered))]
-fn next_early<R: Rules>(
-    order: Order<R>,
-    moves: &mut LegalCursor<R>,
-    board: &mut Board,
-) -> Option<Move>
+fn next_early<R: Rules>(order: Order, moves: &mut LegalCursor<R>, board: &mut Board) -> Option<Move>
     requires well_formed { IsWellFormed board.old }
-    requires known { IsPlaceIn R.rule board.old moves.old }
+    requires place { IsPlaceIn R.rule board.old moves.old }
     requires early { order.early ≡ AimedMoves }
     ensures { Finds R.rule board.old board.new (Some moves.new) result
         (filter (belongs board.old order Aimed) (moves_after R.rule board.old moves.old.place))
@@ -115,7 +105,7 @@ fn next_early<R: Rules>(
         (moves_after R.rule board.old moves.new.place)) }
 {
     while let Some(by) = next_aimed::<R>(moves, board) {
-        if !is_killer::<R>(order, moves.place()) {
+        if !is_killer(order, moves.place()) {
             return Some(by);
         }
     }
@@ -125,13 +115,13 @@ fn next_early<R: Rules>(
 /// Returns the next move after the cursor in this stage.
 #[tactic(auto, unfolding(crate::specs::ties::Frames::moves_here))]
 fn next_here<R: Rules>(
-    order: Order<R>,
+    order: Order,
     move_stage: MoveStage,
     moves: &mut LegalCursor<R>,
     board: &mut Board,
 ) -> Option<Move>
     requires well_formed { IsWellFormed board.old }
-    requires known { IsPlaceIn R.rule board.old moves.old }
+    requires place { IsPlaceIn R.rule board.old moves.old }
     ensures { Finds R.rule board.old board.new (Some moves.new) result
         (moves_here R.rule board.old order move_stage moves.old.place)
         (moves_here R.rule board.old order move_stage moves.new.place) }
@@ -148,7 +138,7 @@ fn next_here<R: Rules>(
 
 /// Returns the stage after this one, or `None` after the last. Without early moves their stage is skipped.
 #[tactic(auto, using(crate::proofs::Orders::next_move_stage), unfolding(crate::specs::ties::Frames::moves_later))]
-fn move_stage_after<R: Rules>(order: Order<R>, move_stage: MoveStage) -> Option<MoveStage>
+fn move_stage_after<R: Rules>(order: Order, move_stage: MoveStage) -> Option<MoveStage>
     ensures later { (p : Position) → MatchOption result (moves_later R.rule p order move_stage ≡ [])
         (λ s. moves_later R.rule p order move_stage ≡ all_moves_of R.rule p order s
         ++ moves_later R.rule p order s) }
@@ -165,7 +155,7 @@ fn move_stage_after<R: Rules>(order: Order<R>, move_stage: MoveStage) -> Option<
 /// Returns the cursor before the first move of a stage. If both killers are one move, the second killer's
 /// stage is empty.
 #[tactic(auto, using(crate::proofs::Orders::first_place), unfolding(crate::specs::ties::Frames::moves_here))]
-pub(crate) fn place_before<R: Rules>(order: Order<R>, move_stage: MoveStage) -> Moves<R>
+pub(crate) fn place_before<R: Rules>(order: Order, move_stage: MoveStage) -> MovePlace
     ensures { (p : Position) → moves_here R.rule p order move_stage result
         ≡ all_moves_of R.rule p order move_stage }
 {
@@ -173,19 +163,19 @@ pub(crate) fn place_before<R: Rules>(order: Order<R>, move_stage: MoveStage) -> 
         MoveStage::Killer => order.killer.previous(),
         MoveStage::Earlier if order.earlier.is(order.killer) => order.earlier,
         MoveStage::Earlier => order.earlier.previous(),
-        MoveStage::Aimed | MoveStage::Others => Moves::start(),
+        MoveStage::Aimed | MoveStage::Others => MovePlace::start(),
     }
 }
 
 /// Returns the next move of a test, one stage after another.
 pub(crate) fn next_tried<R: Rules>(
-    order: Order<R>,
+    order: Order,
     move_stage: &mut MoveStage,
     moves: &mut LegalCursor<R>,
     board: &mut Board,
 ) -> Option<Move>
     requires well_formed { IsWellFormed board.old }
-    requires known { IsPlaceIn R.rule board.old moves.old }
+    requires place { IsPlaceIn R.rule board.old moves.old }
     ensures { Finds R.rule board.old board.new (Some moves.new) result
         (moves_ahead R.rule board.old order move_stage.old moves.old.place)
         (moves_ahead R.rule board.old order move_stage.new moves.new.place) }
@@ -198,6 +188,6 @@ pub(crate) fn next_tried<R: Rules>(
             return None;
         };
         *move_stage = following;
-        moves.go_to(place_before(order, following));
+        moves.go_to(place_before::<R>(order, following));
     }
 }

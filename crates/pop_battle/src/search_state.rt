@@ -1,22 +1,21 @@
 //! What a search remembers from position to position.
-ghost use Rattle.std.specs.Prelude.{◌≡◌};
+ghost use Rattle.std.specs.Prelude.{◌≡◌, ◌<◌, ◌^◌};
 
 use crate::kept_threats::KeptThreats;
 use crate::killers::Killers;
-use chess_rules::Rules;
 
 /// What a search remembers: the moves that decided tests, the threats of one position, and the number of
 /// positions that it has tried, up to the greatest u64.
 #[derive(Drop)]
-pub struct SearchState<R: Rules> {
-    pub killers: Killers<R>,
+pub struct SearchState {
+    pub killers: Killers,
     pub threats: KeptThreats,
     pub opened: u64,
 }
 
-impl<R: Rules> SearchState<R> {
+impl SearchState {
     /// Returns a state with these killers, before any position is tried.
-    pub fn with(killers: Killers<R>) -> SearchState<R>
+    pub fn with(killers: Killers) -> SearchState
         ensures killers { result.killers ≡ killers }
         ensures opened { result.opened ≡ 0 }
     {
@@ -26,4 +25,12 @@ impl<R: Rules> SearchState<R> {
             opened: 0,
         }
     }
+}
+
+/// Does nothing: a statement for the prover alone, that the count is below 2^64.
+#[inline(always)]
+pub fn show_fits_u64(count: u64)
+    ensures { count < 2 ^ 64 }
+{
+    let _count = count;
 }

@@ -57,7 +57,7 @@ fn value_without_move<R: Rules>(goal: Goal, left: usize, board: &Board) -> bool
 
 /// Returns the value of a position with one half-move left in a direct mate for mate: whether White mates.
 #[tactic(auto, using(crate::proofs::Boards::some_move, crate::proofs::Boards::settling, crate::proofs::SmallestTrees::shortest, crate::proofs::Values::last_half_move))]
-fn value_of_last_mate<R: Rules>(board: &mut Board, search_state: &mut SearchState<R>) -> bool
+fn value_of_last_mate<R: Rules>(board: &mut Board, search_state: &mut SearchState) -> bool
     requires well_formed { IsWellFormed board.old }
     ensures { EvaluatesMate R.rule Direct 1 board.old board.new search_state.old.opened
         search_state.new.opened result }
@@ -68,7 +68,7 @@ fn value_of_last_mate<R: Rules>(board: &mut Board, search_state: &mut SearchStat
 
 /// Returns the value of a position with one half-move left in a selfmate for mate: whether Black must mate.
 #[tactic(auto, using(crate::proofs::Boards::some_move, crate::proofs::Boards::settling, crate::proofs::SmallestTrees::shortest, crate::proofs::Values::last_half_move))]
-fn value_of_last_reply<R: Rules>(board: &mut Board, search_state: &mut SearchState<R>) -> bool
+fn value_of_last_reply<R: Rules>(board: &mut Board, search_state: &mut SearchState) -> bool
     requires well_formed { IsWellFormed board.old }
     ensures { EvaluatesMate R.rule Selfmate 1 board.old board.new search_state.old.opened
         search_state.new.opened result }
@@ -77,17 +77,17 @@ fn value_of_last_reply<R: Rules>(board: &mut Board, search_state: &mut SearchSta
     every_move_mates::<R>(board)
 }
 
-/// Returns the value of a position if it can be decided without a frame; otherwise `None`, with what is
-/// known of its moves in `known`. For mate, the last half-moves need no frame (three in a direct mate, two
-/// in a selfmate), and count as if they had one.
+/// Returns the value of a position if it can be decided without a frame; otherwise `None`, with a
+/// cursor over its moves, if they were listed. For mate, the last half-moves need no frame (three in a direct
+/// mate, two in a selfmate), and count as if they had one.
 #[tactic(auto, using(crate::proofs::Boards::settling, crate::proofs::SmallestTrees::shortest, crate::proofs::Values::free_moves))]
 #[inline(always)]
 fn value_at_once<R: Rules>(
     aim: Aim,
     left: usize,
     board: &mut Board,
-    known: &mut Option<LegalCursor<R>>,
-    search_state: &mut SearchState<R>,
+    cursor: &mut Option<LegalCursor<R>>,
+    search_state: &mut SearchState,
 ) -> Option<bool>
     requires well_formed { IsWellFormed board.old }
     ensures unchanged { board.new ≡ board.old }
@@ -96,7 +96,7 @@ fn value_at_once<R: Rules>(
         ≡ joined_value aim.battle (chess aim.goal R.rule) left board.old
         (legal_moves R.rule board.old)))
         (λ v. v ≡ value aim.battle (chess aim.goal R.rule) left board.old) }
-    ensures known { IfSome known.new (λ k. IsPlaceIn R.rule board.old k) }
+    ensures cursor { IfSome cursor.new (λ k. IsPlaceIn R.rule board.old k) }
     ensures opened { MatchOption result (search_state.new.opened ≡ search_state.old.opened)
         (λ _. search_state.new.opened ≤ search_state.old.opened + walk_count (legal_moves R.rule)
         (position_after R.rule) left
@@ -105,7 +105,7 @@ fn value_at_once<R: Rules>(
         (λ _. HasCounted search_state.old.opened search_state.new.opened
         (smallest_tree aim.battle (chess aim.goal R.rule) left board.old)) }
 {
-    *known = None;
+    *cursor = None;
     match (aim.goal, aim.battle, left) {
         (goal, _, 0) => Some(reaches_goal::<R>(goal, board)),
         (Goal::Mate, Battle::Direct, 1) => Some(value_of_last_mate::<R>(board, search_state)),
@@ -115,8 +115,8 @@ fn value_at_once<R: Rules>(
         (Goal::Mate, Battle::Direct, 3) => Some(mates_in_two::<R>(board, search_state)),
         (_, battle, _) if is_free(battle, left) => None,
         (goal, battle, _) => {
-            *known = cursor_if_any_move::<R>(search_state.killers.of(battle, left), board);
-            if known.is_some() {
+            *cursor = cursor_if_any_move::<R>(search_state.killers.of(battle, left), board);
+            if cursor.is_some() {
                 None
             } else {
                 Some(value_without_move::<R>(goal, left, board))
@@ -169,7 +169,7 @@ fn descend<R: Rules, const N: usize>(
     by: Move,
     board: &mut Board,
     frames: &mut ArrayVec<Frame<R>, N>,
-    search_state: &mut SearchState<R>,
+    search_state: &mut SearchState,
 ) -> Option<bool>
     requires well_formed { IsWellFormed board.old }
     requires some { 0 < top.left }
@@ -202,8 +202,8 @@ fn descend<R: Rules, const N: usize>(
     frames.push(top);
     let left = top.left - 1;
     let undo = play::<R>(board, by);
-    let mut known = None;
-    let answer = value_at_once::<R>(aim, left, board, &mut known, search_state);
+    let mut cursor = None;
+    let answer = value_at_once::<R>(aim, left, board, &mut cursor, search_state);
     if answer.is_some() {
         unplay::<R>(board, by, undo);
         return answer;
@@ -217,7 +217,7 @@ fn descend<R: Rules, const N: usize>(
         left,
         order,
         move_stage: MoveStage::Killer,
-        known,
+        cursor,
         line_ends: None,
         ..top
     });
@@ -232,7 +232,7 @@ fn turn<R: Rules, const N: usize>(
     board: &mut Board,
     frames: &mut ArrayVec<Frame<R>, N>,
     answer: &mut Option<bool>,
-    search_state: &mut SearchState<R>,
+    search_state: &mut SearchState,
 ) -> Option<bool>
     requires well_formed { IsWellFormed board.old }
     requires above { floor < array_vec_len frames.old }
@@ -257,7 +257,7 @@ fn turn<R: Rules, const N: usize>(
         search_state.killers.put(top.left, top.place);
         return close::<R>(seek, floor, depth, top, board, answer);
     }
-    let mut moves = moves_at::<R>(top.known, top.place, board);
+    let mut moves = moves_at::<R>(top.cursor, top.place, board);
     let mut move_stage = top.move_stage;
     let Some(by) = next_tried::<R>(top.order, &mut move_stage, &mut moves, board) else {
         return close::<R>(!seek, floor, depth, top, board, answer);
@@ -265,7 +265,7 @@ fn turn<R: Rules, const N: usize>(
     let moved = Frame {
         place: moves.place(),
         move_stage,
-        known: Some(moves),
+        cursor: Some(moves),
         ..top
     };
     *answer = descend::<R, N>(aim, moved, by, board, frames, search_state);
@@ -279,15 +279,15 @@ pub fn value_of<R: Rules, const N: usize>(
     left: usize,
     board: &mut Board,
     frames: &mut ArrayVec<Frame<R>, N>,
-    search_state: &mut SearchState<R>,
+    search_state: &mut SearchState,
 ) -> bool
     requires well_formed { IsWellFormed board.old }
     requires room { array_vec_len frames.old + left ≤ N }
     ensures { Evaluates R.rule aim left board.old board.new frames.old.items frames.new.items
         search_state.old.opened search_state.new.opened result }
 {
-    let mut known = None;
-    if let Some(v) = value_at_once::<R>(aim, left, board, &mut known, search_state) {
+    let mut cursor = None;
+    if let Some(v) = value_at_once::<R>(aim, left, board, &mut cursor, search_state) {
         return v;
     }
     let floor = frames.len();
@@ -298,14 +298,14 @@ pub fn value_of<R: Rules, const N: usize>(
         left,
         order,
         move_stage: MoveStage::Killer,
-        known,
+        cursor,
         line_ends: None,
         ..Frame::default()
     });
     let mut answer = None;
     loop {
-        if let Some(known) = turn::<R, N>(aim, floor, board, frames, &mut answer, search_state) {
-            return known;
+        if let Some(found) = turn::<R, N>(aim, floor, board, frames, &mut answer, search_state) {
+            return found;
         }
     }
 }

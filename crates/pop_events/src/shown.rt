@@ -1,6 +1,5 @@
 //! Moves as they are shown.
-use chess_core::man::{Colour, Kind, Man};
-use chess_core::square::Square;
+use chess_core::{Colour, Kind, Man, Square};
 use std::marker::Model;
 
 /// The side that a king castles to: the a-file or the h-file.

@@ -19,9 +19,7 @@ use crate::names::{Command, ExpectedValue, Section};
 use crate::short_word::ShortWord;
 use crate::switches::Switches;
 use crate::values::{MOST_SOLUTIONS, squares_named};
-use chess_core::diagram::Diagram;
-use chess_core::man::{Colour, Unmoved};
-use chess_core::square::Square;
+use chess_core::{Colour, Diagram, Square, Unmoved};
 use pop_stipulation::stipulation::Stipulation;
 use std::marker::Model;
 

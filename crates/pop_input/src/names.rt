@@ -6,7 +6,7 @@ ghost use Rattle.pop_text.specs.Words.{is_short_form, is_text_word};
 ghost use Rattle.pop_input.specs.Names.{expected_of, colour_of, command_of, condition_of, option_of, section_of, text_word_of};
 
 use crate::condition::Condition;
-use chess_core::man::Colour;
+use chess_core::Colour;
 
 /// A section of a problem (Popeye manual). A command opens it.
 #[derive(Clone, Copy)]

@@ -4,7 +4,7 @@ ghost use Rattle.pop_input.specs.Posed.{IsSound};
 
 use crate::condition::Condition;
 use crate::switches::Switches;
-use chess_core::diagram::Diagram;
+use chess_core::Diagram;
 use pop_stipulation::stipulation::Stipulation;
 use pop_text::text::Text;
 use std::marker::Model;
@@ -138,6 +138,14 @@ impl Problem {
         ensures sound { IsSound self.now }
     {
         self.stipulation
+    }
+
+    /// Does nothing: a statement for the prover alone, that the problem is sound. So its half-moves are at most
+    /// `MOST_HALF_MOVES`.
+    pub fn show_sound(&self)
+        ensures { IsSound self.now }
+    {
+        let _stipulation = self.stipulation();
     }
 
     /// Returns the condition, or `None` in orthodox chess.

@@ -6,7 +6,7 @@ ghost use Rattle.pop_input.specs.Ends.{is_stated};
 ghost use Rattle.pop_input.specs.Values.{goal_of, is_digit, limit_of, most_solutions, one_digit, only_square, square_by, squares_named, stipulation_in_small_letters, stipulation_of, stipulation_with, two_digits};
 
 use arrayvec::ArrayVec;
-use chess_core::square::Square;
+use chess_core::Square;
 use pop_stipulation::stipulation::{Form, Goal, MOST_MOVES, Stipulation};
 
 /// The greatest number that MaxSolutions takes (own).

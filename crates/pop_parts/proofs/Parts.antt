@@ -1,5 +1,5 @@
 -- After a part's first moves the walk shows exactly the part's solutions.
-use Rattle.pop_parts.proofs.Words.{Bool, Contains, IsPlayable, IsSound, IsWellFormed, List, Move, None, Option, Phase, Posed, Position, RuleSet, Some, [], after_well_formed, ap, append-nil, append_assoc, arith, battle_of, begins_path, begins_so, chess, eqb, false, filter, game_of, help_lines, is_help, is_none, may_be_made, legal_moves, length, length-append, lines_to_goal, map, map-id, moves_are_the_legal_moves, moves_in_order, part_solutions, path_end, path_end-append, phase_half_moves, phase_start, plan_of, position_after, refl, set_tree, shown_paths, solutions, start_sound, subst, suc, sym, true, zero, ℕ, ◌++◌, ◌+◌, ◌-◌, ◌∙◌, ◌∷◌, ◌≡◌, ◌≤◌}
+use Rattle.pop_parts.proofs.Words.{Bool, Contains, IsPlayable, IsSound, IsWellFormed, List, Move, None, Option, Phase, Posed, Position, RuleSet, Some, [], after_well_formed, ap, append-nil, append_assoc, arith, battle_of, begins_path, begins_so, chess, eqb, false, filter, game_of, help_lines, is_help, is_none, may_be_made, legal_moves, length, length-append, lines_to_goal, map, map-id, moves_are_the_legal_moves, moves_in_order, part_solutions, path_end, path_end-append, phase_half_moves, phase_start, mode_of, position_after, refl, set_tree, shown_paths, solutions, start_sound, subst, suc, sym, true, zero, ℕ, ◌++◌, ◌+◌, ◌-◌, ◌∙◌, ◌∷◌, ◌≡◌, ◌≤◌}
 use Rattle.pop_stipulation.specs.declared.stipulation.Battle.{Battle}
 use Rattle.pop_events.specs.declared.event.Phase.TheVariants.{Play, Set}
 use Rattle.std.proofs.lemmas.Simd.{map-map}
@@ -66,7 +66,7 @@ module _ (rule : RuleSet) (problem : Posed) where
 
   -- what the walk shows after some moves in help play
   walked : battle_of problem.stipulation.form ≡ None → (start : Bool) (h : ℕ) (p : Position) (front : List Move) (m : Move) → length front + 1 ≤ h
-      → map (λ line. front ++ line) (shown_paths (plan_of problem) (game_of rule problem) start (h - length front) (h - length front)
+      → map (λ line. front ++ line) (shown_paths (mode_of problem) (game_of rule problem) start (h - length front) (h - length front)
       (path_end (position_after rule) p front) (m ∷ []))
       ≡ map (λ line. (front ++ m ∷ []) ++ line) (lines_to_goal (game_of rule problem) (h - length (front ++ m ∷ []))
       (path_end (position_after rule) p (front ++ m ∷ [])))
@@ -75,7 +75,7 @@ module _ (rule : RuleSet) (problem : Posed) where
       let e : h - length front ≡ suc k = omega (arith, length-append front (m ∷ []), room) in
       let L : List (List Move) = lines_to_goal (game_of rule problem) k (position_after rule (path_end (position_after rule) p front) m) in
       rw (e, path_end-append problem.stipulation.goal rule p front m)
-      (ap (map (λ line. front ++ line)) (shown_paths-moves (game_of rule problem) (plan_of problem) help start k (path_end (position_after rule) p front)
+      (ap (map (λ line. front ++ line)) (shown_paths-moves (game_of rule problem) (mode_of problem) help start k (path_end (position_after rule) p front)
       (m ∷ [])
       ∙ append-nil (map (λ line. m ∷ line) L))
       ∙ map-map (λ line. front ++ line) (λ line. m ∷ line) L
@@ -84,7 +84,7 @@ module _ (rule : RuleSet) (problem : Posed) where
   help-cut : battle_of problem.stipulation.form ≡ None → IsSound problem → (phase : Phase) (front : List Move) (m : Move)
       → length front + 1 ≤ phase_half_moves problem phase → are_legal rule (phase_start problem phase) (front ++ m ∷ []) ≡ true → (start : Bool)
       → IsCutInto true problem.max_solutions
-      (map (λ line. front ++ line) (shown_paths (plan_of problem) (game_of rule problem) start
+      (map (λ line. front ++ line) (shown_paths (mode_of problem) (game_of rule problem) start
       (phase_half_moves problem phase - length front) (phase_half_moves problem phase - length front)
       (path_end (position_after rule) (phase_start problem phase) front) (m ∷ [])))
       (part_solutions rule problem phase (front ++ m ∷ []))
@@ -97,26 +97,26 @@ module _ (rule : RuleSet) (problem : Posed) where
 
   one-cut : (battle : Battle) → battle_of problem.stipulation.form ≡ Some battle → (phase : Phase) (h : ℕ) → phase_half_moves problem phase ≡ suc h
       → (m : Move)
-      → IsCutInto false problem.max_solutions (shown_paths (plan_of problem) (game_of rule problem) true (suc h) (suc h) (phase_start problem phase) (m ∷ []))
+      → IsCutInto false problem.max_solutions (shown_paths (mode_of problem) (game_of rule problem) true (suc h) (suc h) (phase_start problem phase) (m ∷ []))
       (battle-by battle phase h (m ∷ []))
   one-cut battle fought Set h z m =
-      set-cut (game_of rule problem) (plan_of problem) battle fought problem.stipulation.n h problem.max_solutions
+      set-cut (game_of rule problem) (mode_of problem) battle fought problem.stipulation.n h problem.max_solutions
       (phase_start problem Set) (m ∷ []) (sym z ∙ ap (λ x. x - 1) (halves-form problem.stipulation.form problem.stipulation.n battle fought))
   one-cut battle fought Play h z m =
-      tree-cut (game_of rule problem) (plan_of problem) battle fought problem.stipulation.n h problem.max_solutions
+      tree-cut (game_of rule problem) (mode_of problem) battle fought problem.stipulation.n h problem.max_solutions
       (phase_start problem Play) (m ∷ []) (sym z ∙ halves-form problem.stipulation.form problem.stipulation.n battle fought)
 
   with-none : (n h k : ℕ) (p : Position) (ms : List Move) (sols : List (List (List Move))) → h ≡ suc k
-      → IsCutInto false n (shown_paths (plan_of problem) (game_of rule problem) true (suc k) (suc k) p ms) sols
-      → IsCutInto false n (map (λ line. [] ++ line) (shown_paths (plan_of problem) (game_of rule problem) true (h - 0) (h - 0) p ms)) sols
+      → IsCutInto false n (shown_paths (mode_of problem) (game_of rule problem) true (suc k) (suc k) p ms) sols
+      → IsCutInto false n (map (λ line. [] ++ line) (shown_paths (mode_of problem) (game_of rule problem) true (h - 0) (h - 0) p ms)) sols
   with-none n h k p ms sols z c =
       let e : h - 0 ≡ suc k = omega (arith, z) in
-      rw (e, map-id (shown_paths (plan_of problem) (game_of rule problem) true (suc k) (suc k) p ms)) c
+      rw (e, map-id (shown_paths (mode_of problem) (game_of rule problem) true (suc k) (suc k) p ms)) c
 
   battle-cut : (battle : Battle) → battle_of problem.stipulation.form ≡ Some battle → IsSound problem → (phase : Phase) (m : Move)
       → 0 + 1 ≤ phase_half_moves problem phase → are_legal rule (phase_start problem phase) (m ∷ []) ≡ true
       → IsCutInto false problem.max_solutions
-      (map (λ line. [] ++ line) (shown_paths (plan_of problem) (game_of rule problem) true
+      (map (λ line. [] ++ line) (shown_paths (mode_of problem) (game_of rule problem) true
       (phase_half_moves problem phase - 0) (phase_half_moves problem phase - 0) (phase_start problem phase) (m ∷ [])))
       (part_solutions rule problem phase (m ∷ []))
   battle-cut battle fought sound phase m room may =
@@ -129,7 +129,7 @@ module _ (rule : RuleSet) (problem : Posed) where
 -- after a part's first moves, the last of which is still to be made, the walk shows the part's solutions
 abbrev pub IsPartCut : RuleSet → Posed → Phase → Bool → List Move → Move → Type 0
 IsPartCut rule problem phase help front m = IsCutInto help problem.max_solutions
-    (map (λ line. front ++ line) (shown_paths (plan_of problem) (chess problem.stipulation.goal rule) (eqb (length front) 0)
+    (map (λ line. front ++ line) (shown_paths (mode_of problem) (chess problem.stipulation.goal rule) (eqb (length front) 0)
     (phase_half_moves problem phase - length front) (phase_half_moves problem phase - length front)
     (path_end (position_after rule) (phase_start problem phase) front) (m ∷ []))) (part_solutions rule problem phase (front ++ m ∷ []))
 

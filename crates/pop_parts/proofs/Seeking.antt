@@ -1,6 +1,6 @@
 -- The walk over first moves: what a step leaves of the lists still to come.
 unfoldable use Rattle.pop_walk.specs.ties.Walk.{AreEnds}
-use Rattle.pop_parts.proofs.Words.{AreKnown, CameFrom, CameFromAt, Frame, IfSome, IsLinked, IsPlaceIn, IsRoomy, IsWalking, IsWellFormed, LegalPlace, List, Move, None, Option, Position, RuleSet, Some, Undo, [], after_well_formed, ap, append-nil, append_assoc, arith, beginnings, chess, drop, is_legal, may_be_made, is_some, length, length-append, length-reverse, map, map-append, map-id, min, moves_after, nil_from_length, path, position, position_after, refl, reverse, rules, slice_get, suc, sym, true, undo_of, walk_work, zero, ℕ, ◌++◌, ◌+◌, ◌-◌, ◌<◌, ◌^◌, ◌∙◌, ◌∷◌, ◌≡◌, ◌≢◌, ◌≤◌}
+use Rattle.pop_parts.proofs.Words.{AreCursors, CameFrom, CameFromAt, Frame, IfSome, IsLinked, IsPlaceIn, IsRoomy, IsWalking, IsWellFormed, LegalPlace, List, Move, None, Option, Position, RuleSet, Some, Undo, [], after_well_formed, ap, append-nil, append_assoc, arith, beginnings, chess, drop, is_legal, may_be_made, is_some, length, length-append, length-reverse, map, map-append, map-id, min, moves_after, nil_from_length, path, position, position_after, refl, reverse, rules, slice_get, suc, sym, true, undo_of, walk_work, zero, ℕ, ◌++◌, ◌+◌, ◌-◌, ◌<◌, ◌^◌, ◌∙◌, ◌∷◌, ◌≡◌, ◌≢◌, ◌≤◌}
 use Rattle.std.proofs.Math.Seq.{drop-nil}
 use Rattle.pop_stipulation.specs.declared.stipulation.Goal.{Goal}
 use Rattle.pop_battle.proofs.Boards.{after_start}
@@ -45,7 +45,7 @@ come-closed goal rule d p f below e = rw e refl
 walking-idle : (rule : RuleSet) (h : ℕ) (p : Position) (f : Frame) (next : ℕ) (m : Move) (below : List Frame) (board after : Position)
     → IsWalking rule h p (f ∷ below) board → length below + 1 ≤ h → is_legal rule board m ≡ true → after ≡ position_after rule board m
     → IsWalking rule h p (opened_frame m (undo_of rule board m) 0 ∷ (moved f next ∷ below)) after
-unfolding IsLinked IsRoomy AreKnown AreEnds position
+unfolding IsLinked IsRoomy AreCursors AreEnds position
 walking-idle rule h p f next m below board after r less lawful e =
     let pseudo = may_be_made rule board m lawful in grind (arith, after_well_formed rule board m r.sound pseudo, pseudo)
 
@@ -59,9 +59,9 @@ module _ (rule : RuleSet) (h d : ℕ) (p : Position) (top : Frame) (old new : Li
   on_top = rw at_top at s.walking
 
   -- what the top frame knows is of the board's position
-  pub top-known : IfSome top.known (IsPlaceIn rule board)
-  unfolding AreKnown
-  top-known = rw on_top.board_at on_top.known.0
+  pub top-cursor : IfSome top.cursor (IsPlaceIn rule board)
+  unfolding AreCursors
+  top-cursor = rw on_top.board_at on_top.cursors.0
 
   -- what taking its move back asks for
   pub back-calls_source : (now : Position) (depth : ℕ) → now ≡ board → depth ≡ length new → 0 < depth → CameFrom rule top now
@@ -82,28 +82,28 @@ module _ (rule : RuleSet) (h d : ℕ) (p : Position) (top : Frame) (old new : Li
       let walking = walking-close rule h p top (reverse new) board after on_top in
       rw at_top (search (rules, walking, idle_top, deep, come-closed, on_top.board_at, length-reverse))
 
-  module _ (known : Option LegalPlace) (place : ℕ) (m : Move) (now : Position) (mid : List Frame) (e : now ≡ board)
-      (within : IfSome known (IsPlaceIn rule board))
+  module _ (cursor : Option LegalPlace) (place : ℕ) (m : Move) (now : Position) (mid : List Frame) (e : now ≡ board)
+      (within : IfSome cursor (IsPlaceIn rule board))
       (next : (moves_after rule board top.place ≡ m ∷ moves_after rule board place) × (is_legal rule board m ≡ true))
-      (put : mid ≡ new ++ moved (learned top known) place ∷ []) where
+      (put : mid ≡ new ++ moved (learned top cursor) place ∷ []) where
     abbrev f : Frame
-    f = learned top known
+    f = learned top cursor
 
-    known_top : IsWalking rule h p (f ∷ reverse new) board
-    known_top = walking-learned rule h p top known (reverse new) board on_top within
+    top_listed : IsWalking rule h p (f ∷ reverse new) board
+    top_listed = walking-learned rule h p top cursor (reverse new) board on_top within
 
     at_mid : reverse mid ≡ moved f place ∷ reverse new
     at_mid = popped mid new _ put
 
     following : moves_after rule (position rule p (f ∷ reverse new)) f.place ≡ m ∷ moves_after rule (position rule p (f ∷ reverse new)) place
-    following = rw (← known_top.board_at) next.0
+    following = rw (← top_listed.board_at) next.0
 
     -- the next move ends a beginning
     pub attacker_to_move-found : length mid ≡ d → Seeks rule h d p (reverse old) (reverse mid) now (Some m)
     unfolding are_idle walk_work position beginnings_to_come path
     attacker_to_move-found last =
         let at : length (reverse new) + 1 ≡ d = omega (arith, last, length-reverse new, ap length put ∙ length-append new (moved f place ∷ [])) in
-        let walking = walking-moved rule h p f place (reverse new) board board known_top in
+        let walking = walking-moved rule h p f place (reverse new) board board top_listed in
         let found = λ (goal : Goal). come-found goal rule d p f place m (reverse new) following at in
         let fuel : d - length (reverse new) ≡ suc (d - length (reverse new) - 1) = omega (arith, at) in
         let falls = turns-unfollowed rule d _ f (reverse new) place m _ fuel following in
@@ -119,7 +119,7 @@ module _ (rule : RuleSet) (h d : ℕ) (p : Position) (top : Frame) (old new : Li
         let less : length (reverse new) + 1 < d = grind (arith, deep, other, length-reverse new, size) in
         let at_last = popped last mid _ pushed in
         let u2 : undo ≡ undo_of rule board m = rw e at u in
-        let walking = walking-idle rule h p f place m (reverse new) board after known_top in
+        let walking = walking-idle rule h p f place m (reverse new) board after top_listed in
         let found = λ (goal : Goal). come-deeper goal rule d p f place m (reverse new) following undo less in
         let fuel : d - length (reverse new) ≡ suc (d - length (reverse new) - 1) = omega (arith, less) in
         let falls = turns-enter rule d _ f (reverse new) place m _ fuel following undo 0 in
@@ -170,8 +170,8 @@ no-frames frames e = search (rules, nil_from_length)
 -- before all beginnings
 module _ (rule : RuleSet) (p : Position) (f : Frame) (left : f.left ≡ 0) where
   -- the walk over first moves begins at the root of the phase
-  pub seeking-begun : (h d : ℕ) (board : Position) → f.known ≡ None → f.line_ends ≡ None → 1 ≤ d → d ≤ h → board ≡ p → IsWellFormed board → IsSeeking rule h d p (f ∷ []) board
-  unfolding IsLinked IsRoomy AreKnown AreEnds position are_idle
+  pub seeking-begun : (h d : ℕ) (board : Position) → f.cursor ≡ None → f.line_ends ≡ None → 1 ≤ d → d ≤ h → board ≡ p → IsWellFormed board → IsSeeking rule h d p (f ∷ []) board
+  unfolding IsLinked IsRoomy AreCursors AreEnds position are_idle
   seeking-begun h d board unknown no_ends some room e sound = search rules
 
   -- all beginnings are to come from there

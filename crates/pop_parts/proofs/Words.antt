@@ -1,7 +1,7 @@
 -- Definitions and lemmas that most proofs about parts use.
-pub use Rattle.pop_walk.proofs.Words.{AllPairs, MatchOption, and_parts, battle_of, events_along, is_none, is_stop, is_unstopped, play_start, total, BareEvent, Bool, CameFrom, CameFromAt, Contains, Frame, Game, Gives, IfSome, IsEnded, IsPlaceIn, IsSound, IsWalking, IsWellFormed, LegalPlace, List, Move, None, Option, Posed, Position, Precedes, RuleSet, Some, IsAtPathOf, Undo, Walks, [], after_well_formed, ap, append-nil, append_assoc, arith, array_vec_len, beginning_count, begins_solution, chess, cond, drop, eqb, event_of, false, false≢true, filter, filter-append, first_in, flat_map, flat_map-append, flat_map_single, from_filter, from_flat_map, from_map, game_of, get_or, half_moves, in_cases, in_flat_map, in_map, inl, inr, is_impossible_phase, is_followed, is_for_mate, is_emitted, is_help, is_legal, is_mate, may_be_made, is_some, kept_paths, later_in, length, length-append, length-reverse, length-take, map, map-append, map-id, min, moves_are_the_legal_moves, moves_in_order, nat_tests, nil_from_length, none_in_nil, not, pairs_flat_map, pairs_map, pairs_nil, pairs_of, pairs_weaker, path_end, path_event, phase_count, phase_half_moves, phase_paths, phase_start, plan_of, refl, reverse, rules, seeks_last, slice_get, solutions_by, subst, suc, sum_by, sym, take, true, undo_of, walk_length, zero, ℕ, ◌&&◌, ◌++◌, ◌+◌, ◌-◌, ◌<◌, ◌^◌, ◌||◌, ◌↔◌, ◌∙◌, ◌∷◌, ◌≡◌, ◌≢◌, ◌≤◌}
+pub use Rattle.pop_walk.proofs.Words.{AllPairs, MatchOption, and_parts, battle_of, events_along, is_none, is_stop, is_unstopped, play_start, total, BareEvent, Bool, CameFrom, CameFromAt, Contains, Frame, Game, Gives, IfSome, IsEnded, IsPlaceIn, IsSound, IsWalking, IsWellFormed, LegalPlace, List, Move, None, Option, Posed, Position, Precedes, RuleSet, Some, IsAtPathOf, Undo, Walks, [], after_well_formed, ap, append-nil, append_assoc, arith, array_vec_len, beginning_count, begins_solution, chess, cond, drop, eqb, event_of, false, false≢true, filter, filter-append, first_in, flat_map, flat_map-append, flat_map_single, from_filter, from_flat_map, from_map, game_of, get_or, half_moves, in_cases, in_flat_map, in_map, inl, inr, is_impossible_phase, is_followed, is_for_mate, is_emitted, is_help, is_legal, is_mate, may_be_made, is_some, kept_paths, later_in, length, length-append, length-reverse, length-take, map, map-append, map-id, min, moves_are_the_legal_moves, moves_in_order, nat_tests, nil_from_length, none_in_nil, not, pairs_flat_map, pairs_map, pairs_nil, pairs_of, pairs_weaker, path_end, path_event, phase_count, phase_half_moves, phase_paths, phase_start, mode_of, refl, reverse, rules, seeks_last, slice_get, solutions_by, subst, suc, sum_by, sym, take, true, undo_of, walk_length, zero, ℕ, ◌&&◌, ◌++◌, ◌+◌, ◌-◌, ◌<◌, ◌^◌, ◌||◌, ◌↔◌, ◌∙◌, ◌∷◌, ◌≡◌, ◌≢◌, ◌≤◌}
 pub use Rattle.pop_walk.proofs.Words.{moves_after}
-unfoldable pub use Rattle.pop_walk.proofs.Words.{AreKnown, IsLinked, IsRoomy, help_lines, lines_to_goal, path, position, set_tree, shown_paths, solutions, to_come, to_open, walk_count, walk_work, left_of}
+unfoldable pub use Rattle.pop_walk.proofs.Words.{AreCursors, IsLinked, IsRoomy, help_lines, lines_to_goal, path, position, set_tree, shown_paths, solutions, to_come, to_open, walk_count, walk_work, left_of}
 pub use Rattle.std.proofs.Common.{codes}
 pub use Rattle.pop_events.specs.declared.event.Phase.{Phase}
 pub use Rattle.pop_parts.specs.PhaseParts.{begins_so, part_count, part_depth, part_numbered}

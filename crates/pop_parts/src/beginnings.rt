@@ -14,7 +14,7 @@ ghost use Rattle.pop_walk.specs.ties.Walk.{Position, chess, path};
 
 use arrayvec::ArrayVec;
 use chess_core::{Board, Move};
-use chess_rules::{Moves, Rules, Undo, play};
+use chess_rules::{MovePlace, Rules, Undo, play};
 use pop_battle::chess::next_move;
 use pop_battle::frame::{Frame, MoveStage, Order};
 use pop_events::Phase;
@@ -39,13 +39,13 @@ fn idle<R: Rules>(by: Move, undo: Undo) -> Frame<R>
     ensures { result ≡ opened_frame by undo 0 }
 {
     Frame {
-        place: Moves::start(),
+        place: MovePlace::start(),
         by,
         undo,
         left: 0,
         order: Order::unordered(),
         move_stage: MoveStage::Others,
-        known: None,
+        cursor: None,
         line_ends: None,
     }
 }
@@ -72,14 +72,14 @@ fn seek<R: Rules, const N: usize>(
     };
     let below = frames.len();
     let mut place = top.place;
-    let mut known = top.known;
-    let Some(by) = next_move::<R>(&mut known, &mut place, board) else {
+    let mut cursor = top.cursor;
+    let Some(by) = next_move::<R>(&mut cursor, &mut place, board) else {
         step_back::<R>(below, top, board);
         return None;
     };
     frames.push(Frame {
         place,
-        known,
+        cursor,
         ..top
     });
     if frames.len() == depth {
@@ -116,9 +116,9 @@ pub(crate) fn begin_walk<R: Rules, const N: usize>(
         return false;
     }
     frames.push(Frame {
-        place: Moves::start(),
+        place: MovePlace::start(),
         left: 0,
-        known: None,
+        cursor: None,
         ..Frame::default()
     });
     true

@@ -9,7 +9,7 @@ use chess_core::{Board, Move};
 use chess_rules::Rules;
 use pop_battle::frame::Frame;
 use pop_battle::killers::Killers;
-use pop_battle::search_state::SearchState;
+use pop_battle::search_state::{SearchState, show_fits_u64};
 use pop_events::{Event, Phase};
 use pop_input::{MOST_FRAMES, Problem};
 use pop_walk::beginning::begin_after;
@@ -43,7 +43,7 @@ pub struct PartSearch<R: Rules, const N: usize> {
     stage: Stage,
     board: Board,
     frames: ArrayVec<Frame<R>, N>,
-    search_state: SearchState<R>,
+    search_state: SearchState,
 }
 
 impl<R: Rules, const N: usize> Model for PartSearch<R, N> {
@@ -54,7 +54,7 @@ impl<R: Rules, const N: usize> Model for PartSearch<R, N> {
     ghost use Rattle.pop_walk.specs.ties.Phases.{left_of, HoldsAtStage};
     ghost use Rattle.pop_parts.specs.ties.PartsSeen.{PartSeen, IsPartOpened};
 
-    ghost Value = { PartSeen R };
+    ghost Value = { PartSeen };
 
     ghost view = { λ s. record {
       problem = s.problem;
@@ -98,7 +98,7 @@ impl<R: Rules, const N: usize> PartSearch<R, N> {
         phase: Phase,
         depth: usize,
         number: u64,
-        killers: Killers<R>,
+        killers: Killers,
     ) -> Option<Self>
         requires room { half_moves problem.now.stipulation < N }
         requires few { N ≤ MOST_FRAMES }
@@ -124,7 +124,7 @@ impl<R: Rules, const N: usize> PartSearch<R, N> {
         by: Move,
         mut board: Board,
         mut frames: ArrayVec<Frame<R>, N>,
-        killers: Killers<R>,
+        killers: Killers,
     ) -> Self
         requires sound { IsSound problem.now }
         requires room { half_moves problem.now.stipulation < N }
@@ -175,8 +175,7 @@ impl<R: Rules, const N: usize> PartSearch<R, N> {
         ensures front { self.new.front ≡ self.old.front }
         ensures opened { self.old.opened ≤ self.new.opened }
     {
-        // For the proof: the count is below 2^64.
-        let _count = self.search_state.opened;
+        show_fits_u64(self.search_state.opened);
         let mut event = None;
         advance::<R, N, true>(
             &self.problem,
@@ -190,7 +189,7 @@ impl<R: Rules, const N: usize> PartSearch<R, N> {
     }
 
     /// Returns the search's killers, the moves that last decided tests.
-    pub fn into_killers(self) -> Killers<R>
+    pub fn into_killers(self) -> Killers
         ensures { result ≡ self.killers }
     {
         let PartSearch { search_state, .. } = self;
@@ -205,8 +204,7 @@ impl<R: Rules, const N: usize> PartSearch<R, N> {
         ensures most { is_help self.now.problem.stipulation.form ≡ true
             → result ≤ part_walk R.rule self.now.problem self.now.phase self.now.front }
     {
-        // For the proof: the count is below 2^64.
-        let _count = self.search_state.opened;
+        show_fits_u64(self.search_state.opened);
         self.search_state.opened
     }
 }

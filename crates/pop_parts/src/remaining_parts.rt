@@ -77,7 +77,7 @@ impl<R: Rules, const N: usize> RemainingParts<R, N> {
     /// Returns a search of the part with this number, counted from 1 among the parts still to come;
     /// `None` if there are fewer. The parts after it are then still to come. The killers affect speed
     /// only.
-    pub(crate) fn search(&mut self, number: u64, killers: Killers<R>) -> Option<PartSearch<R, N>>
+    pub(crate) fn search(&mut self, number: u64, killers: Killers) -> Option<PartSearch<R, N>>
         requires few { N ≤ MOST_FRAMES }
         requires number { 1 ≤ number }
         ensures part { MatchOption result (slice_get self.old.left (number - 1) ≡ None)

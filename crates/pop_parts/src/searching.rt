@@ -15,7 +15,6 @@ pub(crate) fn parts_in<R: Rules>(problem: &Problem, phase: Phase, depth: usize) 
     requires rules { R.rule ≡ rule_of problem.now.condition }
     ensures { result ≡ min (length (parts R.rule problem.now phase depth)) (2 ^ 64 - 1) }
 {
-    // For the proof: the stipulation of a problem that was read has at most 32 half-moves.
-    let _aim = problem.stipulation();
+    problem.show_sound();
     count_parts::<R, MOST_FRAMES>(problem, phase, depth)
 }

@@ -195,8 +195,7 @@ fn print_parts<R: Rules, W: Sink>(
         (parts_requested R.rule request.now problem.now)) result }
     ensures counted { W.failures sink.new ≡ count_after result (W.failures sink.old) }
 {
-    // For the proof: the stipulation of a problem that was read has at most 32 half-moves.
-    let _aim = problem.stipulation();
+    problem.show_sound();
     match RemainingParts::<R, MOST_FRAMES>::of(problem, request.phase, request.depth) {
         None => Ok(()),
         Some(mut parts) => print_parts_from::<R, W>(
@@ -242,8 +241,8 @@ fn print_part<R: Rules, W: Sink>(
     sink: &mut W,
     number: u64,
     parts: &mut RemainingParts<R, MOST_FRAMES>,
-    killers: Killers<R>,
-) -> Result<Killers<R>, SinkFault>
+    killers: Killers,
+) -> Result<Killers, SinkFault>
     requires sink { W.failures sink.old < greatest_count }
     requires number { 1 ≤ number }
     ensures bytes { Writes (W.taken sink.old) (W.taken sink.new)

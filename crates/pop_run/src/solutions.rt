@@ -49,7 +49,6 @@ fn start_search<R: Rules>(problem: &Problem) -> PrunedSearch<R, MOST_FRAMES>
     ensures problem { result.problem ≡ problem.now }
     ensures left { result.left ≡ events R.rule problem.now }
 {
-    // For the prover alone: the call shows that the stipulation has at most `MOST_HALF_MOVES`.
-    let _aim = problem.stipulation();
+    problem.show_sound();
     PrunedSearch::new(problem)
 }

@@ -8,13 +8,13 @@ use Rattle.run_settings.specs.declared.Settings.{Settings as PopsSettings}
 use Rattle.pop_settings.specs.pops.CommandLine as pops
 use Rattle.pop_settings.specs.pops_part.CommandLine as part
 use Rattle.pop_settings.specs.pops_tries.CommandLine as tries
-unfoldable use Rattle.pop_settings.specs.pops_part.CommandLine.{wanted_by}
+unfoldable use Rattle.pop_settings.specs.pops_part.CommandLine.{parts_by, wanted_by}
 unfoldable use Rattle.pop_settings.specs.pops_part.Numbers.{depth_in, number_in, phase_in, range_in}
 use Rattle.pop_settings.specs.declared.arg_fault.ArgFault.TheVariants.{Usage}
 use Rattle.pop_settings.specs.declared.pops_part.wanted.PhaseName.TheVariants.{Set, Play}
 use Rattle.pop_settings.specs.declared.pops_part.wanted.Settings.{Settings as PartSettings}
 use Rattle.pop_settings.specs.declared.pops_part.wanted.Wanted.{Wanted}
-use Rattle.pop_settings.specs.declared.pops_part.wanted.Wanted.TheVariants.{List as ListOf, Parts}
+use Rattle.pop_settings.specs.declared.pops_part.wanted.Wanted.TheVariants.{List as ListOf, Parts, Faults}
 
 -- `pops`: a flag is set exactly if it is there
 pub no_other_flag : (words : List Text) (s : PopsSettings) → first_of (codes "check") (matches_of pops.command words) ≡ None
@@ -44,7 +44,7 @@ parts_wanted : (wanted_by (given (codes "item") (codes "2") ∷ given (codes "ph
     × (wanted_by
     (given (codes "item") (codes "2") ∷ given (codes "phase") (codes "play") ∷ given (codes "part") (codes "3") ∷ given (codes "depth") (codes "4") ∷ [])
     ≡ Some (Parts (record { item = 2; phase = Play; first = 3; last = 3; depth = 4 })))
-unfolding wanted_by depth_in number_in phase_in range_in
+unfolding wanted_by parts_by depth_in number_in phase_in range_in
 parts_wanted = (refl, refl)
 
 -- the matches choose a list if no parts are named
@@ -52,8 +52,17 @@ list_wanted : (wanted_by (given (codes "list") (codes "true") ∷ []) ≡ Some (
     × (wanted_by (given (codes "list") (codes "true") ∷ given (codes "depth") (codes "2") ∷ []) ≡ Some (ListOf 2))
     × (wanted_by (given (codes "list") (codes "true") ∷ given (codes "part") (codes "1") ∷ []) ≡ None)
     × (wanted_by (given (codes "list") (codes "false") ∷ []) ≡ None)
-unfolding wanted_by depth_in number_in phase_in range_in
+unfolding wanted_by parts_by depth_in number_in phase_in range_in
 list_wanted = (refl, refl, refl, refl)
+
+-- the matches choose the faults if no other option is there
+faults_wanted : (wanted_by (given (codes "faults") (codes "true") ∷ []) ≡ Some Faults)
+    × (wanted_by (given (codes "faults") (codes "true") ∷ given (codes "list") (codes "false") ∷ []) ≡ Some Faults)
+    × (wanted_by (given (codes "faults") (codes "true") ∷ given (codes "list") (codes "true") ∷ []) ≡ None)
+    × (wanted_by (given (codes "faults") (codes "true") ∷ given (codes "depth") (codes "1") ∷ []) ≡ None)
+    × (wanted_by (given (codes "faults") (codes "true") ∷ given (codes "item") (codes "1") ∷ []) ≡ None)
+unfolding wanted_by
+faults_wanted = (refl, refl, refl, refl, refl)
 
 -- words that the command takes and that have one of its forms don't get the fault `Usage`
 pub words_of_a_form_are_right : (words : List Text) → takes part.command words ≡ true → is_some (wanted_by (matches_of part.command words)) ≡ true

@@ -4,7 +4,7 @@ use chess_core::Board;
 use chess_rules::Rules;
 use pop_battle::frame::Frame;
 use pop_battle::killers::Killers;
-use pop_battle::search_state::SearchState;
+use pop_battle::search_state::{SearchState, show_fits_u64};
 use pop_events::Event;
 use pop_input::Problem;
 use pop_walk::phases::{Stage, advance, first_phase};
@@ -20,7 +20,7 @@ pub struct Search<R: Rules, const N: usize> {
     stage: Stage,
     board: Board,
     frames: ArrayVec<Frame<R>, N>,
-    search_state: SearchState<R>,
+    search_state: SearchState,
     given: u64,
 }
 
@@ -100,8 +100,7 @@ impl<R: Rules, const N: usize> Search<R, N> {
         ensures problem { self.new.problem ≡ self.old.problem }
         ensures opened { self.old.opened ≤ self.new.opened }
     {
-        // For the proof: the count is below 2^64.
-        let _count = self.search_state.opened;
+        show_fits_u64(self.search_state.opened);
         let mut event = None;
         advance::<R, N, false>(
             &self.problem,
@@ -162,8 +161,7 @@ impl<R: Rules, const N: usize> Search<R, N> {
             → self.now.left ≡ []
             → min (fewest_tried R.rule self.now.problem) (2 ^ 64 - 1) ≤ result }
     {
-        // For the proof: the count is below 2^64.
-        let _count = self.search_state.opened;
+        show_fits_u64(self.search_state.opened);
         self.search_state.opened
     }
 }

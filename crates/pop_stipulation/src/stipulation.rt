@@ -2,7 +2,7 @@
 ghost use Rattle.std.specs.Prelude.{◌≡◌};
 ghost use Rattle.pop_stipulation.specs.Stipulations.{battle_of, first_half, goal_side, half_moves, is_for_stalemate, is_help, starting_side};
 
-use chess_core::man::Colour;
+use chess_core::Colour;
 
 /// Who starts, who helps, and which side is to be mated or stalemated (Codex; spelling of the Popeye manual). Below,
 /// `#` stands for either goal.

@@ -16,7 +16,7 @@ use Rattle.pop_tries.proofs.MoveSets.{held_at_start}
 use Rattle.pop_tries.specs.ties.Contests.{game_in}
 use Rattle.pop_tries.specs.ties.Candidates.{candidates_of, no_try, none_kept, try_at}
 use Rattle.pop_tries.specs.ties.FewPlaces.{IsPlaceOf}
-use Rattle.pop_tries.specs.ties.FirstMoves.{AreCandidates, AreKept, AreRefuting, AreTries, IsKept, IsKnownTry, belongs, is_try_after, refutes}
+use Rattle.pop_tries.specs.ties.FirstMoves.{AreCandidates, AreKept, AreRefuting, IsKept, IsKnownTry, belongs, is_try_after, refutes}
 use Rattle.pop_tries.proofs.Contests.{key_unrefuted, not_zero, refuted_is_no_key, try_by_count, try_by_none}
 use Rattle.pop_tries.proofs.theorems.Refutations.{no_key_is_a_try}
 
@@ -125,11 +125,7 @@ notes rule contest most p Keys before candidates place e are none same = (
 )
 notes rule contest most p (Tries some) before candidates place e are none same = rw (same some refl) are
 
--- where nothing is known all tries may be candidates
-pub unknown_tries : (rule : RuleSet) (contest : Contest) (most : ℕ) (p : Position) (candidates : Candidates) → candidates ≡ candidates_of None
-    → AreTries rule contest most p candidates
-unknown_tries rule contest most p candidates e = rw e (λ m c t. refl, none_are_kept rule contest most p)
-
+-- where nothing is known all keys may be candidates
 pub unknown_keys : (rule : RuleSet) (contest : Contest) (most : ℕ) (p : Position) (candidates : Candidates) → candidates ≡ candidates_of None
     → AreCandidates rule contest Keys most p candidates 0
 unknown_keys rule contest most p candidates e = rw e (λ m c t. inl refl, none_are_kept rule contest most p)

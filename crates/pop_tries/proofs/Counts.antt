@@ -72,9 +72,9 @@ module _ (rule : RuleSet) (contest : Contest) (q : Position) where
   refuted_nowhere place e m there = absurd (omega (arith, e, there.some))
 
   -- what a count says of the refutations
-  pub known_refuting : (refuting : Refuting) (moves : MoveSet) (last : ℕ) → refuting ≡ record { moves = moves; last = last }
+  pub refuting_is_kept : (refuting : Refuting) (moves : MoveSet) (last : ℕ) → refuting ≡ record { moves = moves; last = last }
       → HoldAll rule q (refutes rule contest q) (Some moves) → IsRefutedAt rule contest q last → AreRefuting rule contest q refuting
-  known_refuting refuting moves last e held at = rw e (held, at)
+  refuting_is_kept refuting moves last e held at = rw e (held, at)
 
   -- the reply at a place that is known
   pub refuted_by : (refuting : Refuting) (place : ℕ) (by : Move) → AreRefuting rule contest q refuting → IsWellFormed q → is_legal rule q by ≡ true

@@ -39,10 +39,10 @@ one_of_two_fails false b = refl
 -- not all few moves meet the test, exactly if some fails
 pub some_fails : (test : Move → Bool) (few : FewPlaces) (all : List Move) → AreAt few all [] → are_few few ≡ true
     → not (all_meet test few) ≡ list_any (λ t. not (test t)) all
-some_fails test Empty all a known = rw a refl
-some_fails test (One place) all a known = rw (a.1.move, a.2) (one_fails (test a.0))
-some_fails test (Two first second) all a known = rw (a.2.move, a.3.move, a.4) (one_of_two_fails (test a.0) (test a.1))
-some_fails test Many all a known = absurd (false≢true known)
+some_fails test Empty all a few = rw a refl
+some_fails test (One place) all a few = rw (a.1.move, a.2) (one_fails (test a.0))
+some_fails test (Two first second) all a few = rw (a.2.move, a.3.move, a.4) (one_of_two_fails (test a.0) (test a.1))
+some_fails test Many all a few = absurd (false≢true few)
 
 -- the place of a legal move right before a cursor
 pub place_is : (rule : RuleSet) (p : Position) (m : Move) (place : ℕ) → IsWellFormed p → is_legal rule p m ≡ true → place ≡ place_of (Some m) → IsPlaceOf place m

@@ -11,8 +11,8 @@ use Rattle.pop_walk.proofs.Events.{room-length}
 use Rattle.pop_walk.proofs.Sound.{in_range}
 use Rattle.pop_walk.specs.Events.{last_shown}
 use Rattle.pop_walk.proofs.Paths.{path-length}
-use Rattle.pop_walk.specs.declared.plan.Plan.{Plan}
-use Rattle.pop_walk.specs.ties.Plans.{plan_of}
+use Rattle.pop_walk.specs.declared.mode.Mode.{Mode}
+use Rattle.pop_walk.specs.ties.Modes.{mode_of}
 use Rattle.pop_walk.specs.ties.Walk.{IsRoomy, IsWalking, path}
 use Rattle.pop_tries.specs.Shown.{shown_below_first, try_event_of}
 use Rattle.pop_tries.specs.declared.desk.Desk.{Desk}
@@ -45,12 +45,12 @@ pub still_bare : {A : Type 0} {n : ℕ} {q : Position} {old new : Desk A n} → 
 still_bare keeps bare = record { board_at = keeps.board ∙ bare.board_at; none = keeps.frames ∙ bare.none }
 
 -- the walk below a first move goes on
-pub walked_on : {A : Type 0} (rule : RuleSet) (task : Task) (first : First A) (p before board : Position) (was items : List Frame)
+pub walked_on : (rule : RuleSet) (task : Task) (first : First) (p before board : Position) (was items : List Frame)
     → IsWalkedBelow rule task first p was before → IsOnWalk rule task p items board → IsWalkedBelow rule task first p items board
 walked_on rule task first p before board was items walked on = record { first_is = walked.first_is; threat = walked.threat; walking = on }
 
 -- after a walk below a first move, with the board back where that move led and no frame left, the replies follow
-pub replies_follow : {A : Type 0} (rule : RuleSet) (task : Task) (first : First A) (p before board : Position) (was items : List Frame)
+pub replies_follow : (rule : RuleSet) (task : Task) (first : First) (p before board : Position) (was items : List Frame)
     → IsWalkedBelow rule task first p was before → board ≡ after_first rule task first.by → items ≡ [] → IsAnswered rule task first items board
 replies_follow rule task first p before board was items walked back none =
     record { first_is = walked.first_is; threat = walked.threat; bare = record { board_at = back; none = none } }
@@ -64,12 +64,12 @@ module _ (rule : RuleSet) (contest : Contest) (q : Position) where
   pub threat_is : (threat : Option Threat) → is_some threat ≡ true → AreThreats rule contest q threat
       → has_threat contest.battle (game_in rule contest) contest.stipulation.n (chess_passing rule) q ≡ true
   threat_is None s t = absurd (false≢true s)
-  threat_is (Some known) s t = t.timed.threat
+  threat_is (Some threats) s t = t.timed.threat
 
   pub no_threat_is : (threat : Option Threat) → is_some threat ≡ false → AreThreats rule contest q threat
       → has_threat contest.battle (game_in rule contest) contest.stipulation.n (chess_passing rule) q ≡ false
   no_threat_is None s t = t
-  no_threat_is (Some known) s t = absurd (false≢true (sym s))
+  no_threat_is (Some threats) s t = absurd (false≢true (sym s))
 
   -- a reply that is shown doesn't refute
   pub shown_is_met : (d : Move) → is_shown rule contest q d ≡ true
@@ -87,23 +87,23 @@ module _ (goal : Goal) (rule : RuleSet) (problem : Posed) (first : Move) (line :
       let f2 : half ≡ length (m ∷ line) + 1 = omega (arith, f) in
       rw (e2, f2, g, last_below goal rule (position_after rule (play_start problem) first) m line some) refl
 
--- the walk below a first move, with its plan and its half-moves
-module _ (rule : RuleSet) (task : Task) (plan : Plan) (h : ℕ) (planned : plan ≡ plan_of task.problem) (left : h ≡ half_moves task.problem.stipulation - 2) where
+-- the walk below a first move, with its mode and its half-moves
+module _ (rule : RuleSet) (task : Task) (mode : Mode) (h : ℕ) (mode_is : mode ≡ mode_of task.problem) (left : h ≡ half_moves task.problem.stipulation - 2) where
   pub on_walk : (p board : Position) (items : List Frame) → IsOnWalk rule task p items board → IsWalking rule h p (reverse items) board
   on_walk p board items w = rw left w
 
   -- it has gone on to a node, which is shown
   pub node_goes : (first : Move) (base : Base) (old new slice : List Frame) (board after : Position) (given : Bool) (depth half : ℕ) (shown : Shown)
-      → given ≡ true → slice ≡ new → ShowsNext rule plan h (base_position rule task.problem first base) (reverse old) (reverse new) board given
+      → given ≡ true → slice ≡ new → ShowsNext rule mode h (base_position rule task.problem first base) (reverse old) (reverse new) board given
       → after ≡ board → depth ≡ length (path (reverse slice)) + 1 → half ≡ length (path (reverse slice)) + 2
-      → ((k : ℕ) (p : Position) → IsWalking rule k p (reverse slice) board → shown ≡ last_shown plan.goal rule p (path (reverse slice)))
+      → ((k : ℕ) (p : Position) → IsWalking rule k p (reverse slice) board → shown ≡ last_shown mode.goal rule p (path (reverse slice)))
       → ShowsNode rule task first base old new after (Some (Node depth half shown))
   node_goes first base old new slice board after given depth half shown r same s e d k g =
       let line = path (reverse new) in
       let some : 1 ≤ length line = omega (arith, s.deep r, path-length (reverse new)) in
-      let last = rw (planned, same) at (g h (base_position rule task.problem first base) (rw same s.walking)) in
+      let last = rw (mode_is, same) at (g h (base_position rule task.problem first base) (rw same s.walking)) in
       let node = node_shown task.problem.stipulation.goal rule task.problem first line depth half shown base some (rw same at d) (rw same at k) last in
-      (rw e (rw left at s.walking), (line, rw (planned, left) at (s.next r), search node))
+      (rw e (rw left at s.walking), (line, rw (mode_is, left) at (s.next r), search node))
 
 -- a first move of a group, as it is shown
 pub first_shown : (rule : RuleSet) (problem : Posed) (group : Group) (m : Move) (shown : Shown)

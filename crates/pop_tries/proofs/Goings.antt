@@ -22,7 +22,7 @@ use Rattle.pop_tries.specs.ties.Searching.{Emits, GoesWith, IsPlaced, IsTask, af
 unfoldable use Rattle.pop_tries.specs.ties.Searching.{HoldsAt, left_of}
 use Rattle.pop_tries.proofs.Steps.{group_begins, next_first, still_few, still_limited}
 
-module _ {A : Type 0} (rule : RuleSet) (task : Task) (old new : TriesStage A) (was items : List Frame) (board : Position)
+module _ (rule : RuleSet) (task : Task) (old new : TriesStage) (was items : List Frame) (board : Position)
     (holds : HoldsAt rule task new items board) where
   -- a step with an event
   pub with_event : (shown : TryEvent) (bare : BareTryEvent) → left_of rule task old was ≡ bare ∷ left_of rule task new items
@@ -38,14 +38,14 @@ module _ {A : Type 0} (rule : RuleSet) (task : Task) (old new : TriesStage A) (w
   without_event left less = record { holds = holds; emits = left; falls = λ _. less }
 
 -- a group begins
-pub group_comes : (A : Type 0) (rule : RuleSet) (task : Task) (group : Group) (before candidates : Candidates) (place : ℕ) → place ≡ 0
-    → (was items : List Frame) → left_of rule task {A = A} (Beginning group before) was
-    ≡ beginning_of group ∷ left_of rule task {A = A} (FirstMove (record { group = group; place = place; count = 0; candidates = candidates })) items
+pub group_comes : (rule : RuleSet) (task : Task) (group : Group) (before candidates : Candidates) (place : ℕ) → place ≡ 0
+    → (was items : List Frame) → left_of rule task (Beginning group before) was
+    ≡ beginning_of group ∷ left_of rule task (FirstMove (record { group = group; place = place; count = 0; candidates = candidates })) items
 unfolding left_of
-group_comes A rule task group before candidates place e was items = rw e (group_begins rule task group)
+group_comes rule task group before candidates place e was items = rw e (group_begins rule task group)
 
 -- a group ends
-pub group_ended : {A : Type 0} (rule : RuleSet) (task : Task) (firsts : Firsts A) (new : TriesStage A) (was items : List Frame) (board : Position)
+pub group_ended : (rule : RuleSet) (task : Task) (firsts : Firsts) (new : TriesStage) (was items : List Frame) (board : Position)
     (event : Option TryEvent) → HoldsAt rule task new items board
     → Emits rule task (ending_of rule task firsts.group firsts.count) (left_of rule task new items) event → is_some event ≡ true
     → group_left rule task firsts ≡ ending_of rule task firsts.group firsts.count → GoesWith rule task (FirstMove firsts) was new items board event
@@ -57,11 +57,11 @@ group_ended rule task firsts new was items board event h e s l = record {
 }
 
 -- a first move begins
-module _ {A : Type 0} (rule : RuleSet) (task : Task) (fit : IsContest (contest_of task)) (s : IsTask task) (firsts : Firsts A)
+module _ (rule : RuleSet) (task : Task) (fit : IsContest (contest_of task)) (s : IsTask task) (firsts : Firsts)
     (placed : IsPlaced rule task firsts) (next : ℕ) (candidates : Candidates) (m : Move) (undo : Undo) (refuting : Refuting)
     (found : firsts_after rule task firsts.group firsts.place ≡ m ∷ firsts_after rule task firsts.group next)
     (open_yet : is_stopped task.problem firsts.group firsts.count ≡ false) where
-  abbrev first : First A
+  abbrev first : First
   first = record { firsts = record { group = firsts.group; place = next; count = firsts.count + 1; candidates = candidates }; by = m; undo = undo; threat = None; refuting = refuting }
 
   pub first_comes : (was items : List Frame) → left_of rule task (FirstMove firsts) was ≡ first_event firsts.group m ∷ left_of rule task (Faced first) items

@@ -65,5 +65,5 @@ pub ruleset filtering = (first_fails, first_of_all, none_meets)
 
 -- In a loop over the moves of p, board and frames are unchanged, and no move between two places meets the test.
 abbrev pub NoneSoFar : RuleSet → Position → (Move → Bool) → (place now : ℕ) → Position → (old new : List Frame) → Option LegalPlace → Type 0
-NoneSoFar rule p test place now board old new known = (board ≡ p) × (new ≡ old) × IfSome known (λ k. IsPlaceIn rule p k)
+NoneSoFar rule p test place now board old new cursor = (board ≡ p) × (new ≡ old) × IfSome cursor (λ k. IsPlaceIn rule p k)
     × (filter test (moves_after rule p place) ≡ filter test (moves_after rule p now))

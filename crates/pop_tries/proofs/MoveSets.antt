@@ -59,11 +59,6 @@ module _ (rule : RuleSet) (p : Position) (test : Move → Bool) where
     | inr later ↦ absurd (none_in_nil m (rw e at later))
   ]
 
-  -- what holds all holds them in a greater set
-  pub held_longer : (old new : Option MoveSet) → HoldAll rule p test old → ((k : Move) → may_be old k ≡ true → may_be new k ≡ true)
-      → HoldAll rule p test new
-  held_longer old new held kept m c t = kept m (held m c t)
-
   -- a move that isn't held fails
   pub not_held : (set : Option MoveSet) (m : Move) → HoldAll rule p test set → IsWellFormed p → is_legal rule p m ≡ true → may_be set m ≡ false
       → test m ≡ false

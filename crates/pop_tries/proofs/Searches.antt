@@ -1,8 +1,7 @@
 -- How a search for tries begins, and what a call of `next` returns.
-use Rattle.pop_tries.proofs.Words.{BareTryEvent, Battle, Bool, IsSound, List, None, Option, Posed, Position, RuleSet, Some, [], arith, battle_of, drop, false, false≢true, inl, nat_tests, play_start, refl, rules, true, ℕ, ◌∙◌, ◌∷◌, ◌≡◌, ◌≤◌, ◌<◌}
+use Rattle.pop_tries.proofs.Words.{BareTryEvent, Battle, Bool, IsSound, List, None, Option, Posed, Position, RuleSet, Some, [], arith, battle_of, false, false≢true, inl, nat_tests, play_start, refl, rules, true, ℕ, ◌∙◌, ◌∷◌, ◌≡◌, ◌≤◌, ◌<◌}
 unfoldable use Rattle.pop_tries.proofs.Words.{try_events}
-use Rattle.std.specs.Prelude.{MatchOption, is_some, slice_get}
-use Rattle.std.specs.Option.{option_map}
+use Rattle.std.specs.Prelude.{MatchOption, is_some}
 use Rattle.pop_battle.specs.ties.Frames.{Frame}
 use Rattle.pop_stipulation.specs.Stipulations.{half_moves, may_have}
 use Rattle.pop_stipulation.specs.declared.stipulation.Form.{Form}
@@ -21,7 +20,7 @@ unfoldable use Rattle.pop_tries.specs.ties.Searching.{HoldsAt, left_of}
 some_move : (form : Form) (battle : Battle) (n : ℕ) → battle_of form ≡ Some battle → may_have form n ≡ true → 1 ≤ n
 some_move form battle n e r = grind (arith, nat_tests)
 
-module _ {A : Type 0} (rule : RuleSet) (problem : Posed) (most : ℕ) (course : Course A) (whole : course ≡ first_course problem) (items : List Frame)
+module _ (rule : RuleSet) (problem : Posed) (most : ℕ) (course : Course) (whole : course ≡ first_course problem) (items : List Frame)
     (none : items ≡ []) where
   -- at first all events are to come
   pub all_to_come : left_on rule problem most course items ≡ try_events rule problem most
@@ -29,7 +28,7 @@ module _ {A : Type 0} (rule : RuleSet) (problem : Posed) (most : ℕ) (course : 
   all_to_come = rw (whole, none) (by (battle_of problem.stipulation.form) problem.set_play refl)
     where
       by : (p : Option Battle) (set_play : Bool) → problem.set_play ≡ set_play
-          → left_on rule problem most (course_by {A = A} p set_play) [] ≡ events_by p rule problem most
+          → left_on rule problem most (course_by p set_play) [] ≡ events_by p rule problem most
       by None set_play e = refl
       by (Some b) true e = rw e refl
       by (Some b) false e = rw e refl
@@ -41,7 +40,7 @@ module _ {A : Type 0} (rule : RuleSet) (problem : Posed) (most : ℕ) (course : 
   on_course s few room fits board at = rw (whole, none, at) (by (battle_of problem.stipulation.form) problem.set_play refl)
     where
       by : (p : Option Battle) (set_play : Bool) → battle_of problem.stipulation.form ≡ p
-          → IsOnCourse rule problem most (course_by {A = A} p set_play) [] (play_start problem) room
+          → IsOnCourse rule problem most (course_by p set_play) [] (play_start problem) room
       by None set_play e = tt
       by (Some b) true e = record {
         is_task = record { sound = s; few = few };
@@ -59,14 +58,6 @@ module _ {A : Type 0} (rule : RuleSet) (problem : Posed) (most : ℕ) (course : 
         );
       }
 
-module _ (rule : RuleSet) (problem : Posed) where
-  -- the event returned, and the events then still to come
-  pub next_shown : (old new : List BareTryEvent) (result : Option TryEvent)
-      → MatchOption result ((old ≡ []) × (new ≡ [])) (λ shown. (bare : BareTryEvent) × (old ≡ bare ∷ new) × (shown ≡ try_event_of rule problem bare))
-      → (result ≡ option_map (try_event_of rule problem) (slice_get old 0)) × (new ≡ drop 1 old)
-  next_shown old new None m = (rw m.0 refl, rw (m.0, m.1) refl)
-  next_shown old new (Some shown) m = (rw (m.1, m.2) refl, rw m.1 refl)
-
 -- after a step with an event, that event was the next one to come
 pub emitted : (rule : RuleSet) (task : Task) (start old new : List BareTryEvent) (event : Option TryEvent) → start ≡ old → Emits rule task old new event
     → is_some event ≡ true
@@ -75,7 +66,7 @@ emitted rule _ start old new None same e s = absurd (false≢true s)
 emitted rule _ start old new (Some shown) same e s = (e.0, same ∙ e.1, e.2)
 
 -- nothing is left to come
-pub over_empty : {A : Type 0} (rule : RuleSet) (task : Task) (stage : TriesStage A) (items : List Frame) → is_over stage ≡ true
+pub over_empty : (rule : RuleSet) (task : Task) (stage : TriesStage) (items : List Frame) → is_over stage ≡ true
     → left_of rule task stage items ≡ []
 unfolding left_of
 over_empty rule task stage items e = search rules

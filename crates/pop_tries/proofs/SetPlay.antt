@@ -10,11 +10,11 @@ use Rattle.pop_walk.specs.declared.phases.Stage.{Stage}
 use Rattle.pop_walk.specs.declared.phases.Stage.TheVariants.{After, NotPossible as NotPossiblePhase, Before, First, Within as WithinPhase}
 use Rattle.pop_walk.specs.ties.Phases.{beginning_count, kept_paths, phase_paths}
 unfoldable use Rattle.pop_walk.specs.ties.Phases.{HoldsAtStage, left_of as set_play_left}
-use Rattle.pop_walk.specs.ties.Plans.{walk_of}
+use Rattle.pop_walk.specs.ties.Modes.{walk_of}
 use Rattle.pop_walk.specs.declared.phases.Walk.{Walk}
 use Rattle.pop_walk.specs.ties.Walk.{IsWalking}
 unfoldable use Rattle.pop_walk.specs.ties.Walk.{IsRoomy}
-unfoldable use Rattle.pop_battle.specs.ties.Frames.{AreKnown, IsLinked, position}
+unfoldable use Rattle.pop_battle.specs.ties.Frames.{AreCursors, IsLinked, position}
 use Rattle.pop_battle.proofs.Boards.{after_start}
 use Rattle.chess_rules.specs.ties.Places.{moves_after}
 use Rattle.pop_walk.proofs.Solved.{IsCutInto, root-solutions}
@@ -60,15 +60,15 @@ none_after rule problem (WithinPhase walk count) frames board h e = some_left _ 
 none_after rule problem After frames board h e = h.0
 
 -- a new frame at p is a walk from p
-walks_from : (rule : RuleSet) (h : ℕ) (p board : Position) (f : Frame) → IsWellFormed p → board ≡ p → f.left ≤ h → f.known ≡ None
+walks_from : (rule : RuleSet) (h : ℕ) (p board : Position) (f : Frame) → IsWellFormed p → board ≡ p → f.left ≤ h → f.cursor ≡ None
     → f.line_ends ≡ None → IsWalking rule h p (f ∷ []) board
-unfolding IsLinked IsRoomy AreKnown AreEnds position
+unfolding IsLinked IsRoomy AreCursors AreEnds position
 walks_from rule h p board f well same room none no_ends = grind (arith, well, same, room, none, no_ends)
 
 -- set play begins with one frame
 module _ (rule : RuleSet) (problem : Posed) (s : IsSound problem) (was items : List Frame) (f : Frame) (empty : was ≡ []) (one : items ≡ was ++ f ∷ [])
     (left : f.left ≡ phase_half_moves problem Set) where
-  pub walk_begins : (board : Position) → board ≡ phase_start problem Set → f.known ≡ None → f.line_ends ≡ None
+  pub walk_begins : (board : Position) → board ≡ phase_start problem Set → f.cursor ≡ None → f.line_ends ≡ None
       → IsWalking rule (phase_half_moves problem Set) (phase_start problem Set) (reverse items) board
   walk_begins board at none no_ends =
       rw (one, empty) (walks_from rule (phase_half_moves problem Set) (phase_start problem Set) board f (start_sound problem s Set) at
@@ -79,31 +79,31 @@ module _ (rule : RuleSet) (problem : Posed) (s : IsSound problem) (was items : L
   paths_begin first = rw (one, empty) (root-solutions rule problem s Set f left (ap (moves_after rule (phase_start problem Set)) first
       ∙ after_start rule (phase_start problem Set)))
 
-module _ (A : Type 0) (rule : RuleSet) (task : Task) where
+module _ (rule : RuleSet) (task : Task) where
   -- the events of set play, as it begins
   pub left_begun : (was items : List Frame) (walk : Walk) → walk ≡ walk_of task.problem Set Part → is_impossible_phase rule task.problem Set ≡ false
       → IsCutInto (is_help task.problem.stipulation.form) task.problem.max_solutions (phase_paths rule task.problem Set (reverse items))
       (solutions rule task.problem Set)
-      → left_of rule task {A = A} SetPlay was ≡ set_event (opening Set) ∷ left_of rule task {A = A} (Within (WithinPhase walk 0)) items
+      → left_of rule task SetPlay was ≡ set_event (opening Set) ∷ left_of rule task (Within (WithinPhase walk 0)) items
   unfolding left_of
   left_begun was items walk e i cut = rw (e, set_begun rule task.problem (reverse items) i cut.kept cut.begun) refl
 
   -- the events where set play isn't possible
   pub left_barred : (was items : List Frame) → is_impossible_phase rule task.problem Set ≡ true
-      → left_of rule task {A = A} SetPlay was ≡ set_event (opening Set) ∷ left_of rule task {A = A} NotPossible items
+      → left_of rule task SetPlay was ≡ set_event (opening Set) ∷ left_of rule task NotPossible items
   unfolding left_of
   left_barred was items i = rw (set_barred rule task.problem i) refl
 
   -- an event of set play
   pub left_goes_on : (old new : Stage) (was items : List Frame) (bare : BareEvent)
       → set_play_left rule task.problem old (reverse was) ≡ bare ∷ set_play_left rule task.problem new (reverse items)
-      → left_of rule task {A = A} (Within old) was ≡ set_event bare ∷ left_of rule task {A = A} (Within new) items
+      → left_of rule task (Within old) was ≡ set_event bare ∷ left_of rule task (Within new) items
   unfolding left_of
   left_goes_on old new was items bare e = rw e refl
 
   -- set play ends
   pub left_ends : (old : Stage) (was items : List Frame) → set_play_left rule task.problem old (reverse was) ≡ []
-      → left_of rule task {A = A} (Within old) was ≡ left_of rule task {A = A} (Beginning Keys (candidates_of None)) items
+      → left_of rule task (Within old) was ≡ left_of rule task (Beginning Keys (candidates_of None)) items
   unfolding left_of
   left_ends old was items e = rw e refl
 

@@ -5,8 +5,8 @@ use Rattle.pop_battle.specs.ties.Frames.{Frame}
 unfoldable use Rattle.pop_battle.specs.ties.Frames.{position}
 use Rattle.pop_battle.specs.ties.Values.{value}
 use Rattle.pop_battle.proofs.Boards.{after_start}
-use Rattle.pop_walk.specs.declared.plan.Plan.{Plan}
-use Rattle.pop_walk.specs.ties.Plans.{plan_of}
+use Rattle.pop_walk.specs.declared.mode.Mode.{Mode}
+use Rattle.pop_walk.specs.ties.Modes.{mode_of}
 use Rattle.pop_walk.specs.ties.Walk.{IsWalking, Steps, walk_length}
 unfoldable use Rattle.pop_walk.specs.ties.Walk.{to_come}
 use Rattle.pop_walk.proofs.Kept.{to_come-root}
@@ -20,20 +20,20 @@ use Rattle.pop_tries.proofs.ThreatLengths.{halves-most, two_half_moves, value_if
 use Rattle.pop_tries.proofs.Walks.{below_walked}
 
 -- a new frame shows what stands below a reply
-pub shows_below : (rule : RuleSet) (plan : Plan) (h : ℕ) (p : Position) (f : Frame) → f.place ≡ 0
-    → f.left ≡ walk_length plan.battle plan.variation (chess plan.goal rule) h p → ShowsBelow rule plan h p (f ∷ [])
-shows_below rule plan h p f start long battle n fought white few v =
+pub shows_below : (rule : RuleSet) (mode : Mode) (h : ℕ) (p : Position) (f : Frame) → f.place ≡ 0
+    → f.left ≡ walk_length mode.battle mode.variation (chess mode.goal rule) h p → ShowsBelow rule mode h p (f ∷ [])
+shows_below rule mode h p f start long battle n fought white few v =
     let all : h - 0 ≡ h = omega arith in
-    to_come-root rule plan h p f ∙ (rw (start, after_start rule p, all, long) (below_walked (chess plan.goal rule) plan battle fought n h p white few v))
+    to_come-root rule mode h p f ∙ (rw (start, after_start rule p, all, long) (below_walked (chess mode.goal rule) mode battle fought n h p white few v))
 
-module _ (rule : RuleSet) (plan : Plan) (h : ℕ) (p : Position) (old mid : List Frame) (same : to_come rule plan h p old ≡ to_come rule plan h p mid) where
+module _ (rule : RuleSet) (mode : Mode) (h : ℕ) (p : Position) (old mid : List Frame) (same : to_come rule mode h p old ≡ to_come rule mode h p mid) where
   -- a step that shows a node
-  pub node_shown : (new : List Frame) (board : Position) (given : Bool) → Steps rule plan h p mid new board given
-      → given ≡ true → 0 < length mid → ShowsNext rule plan h p old new board true
+  pub node_shown : (new : List Frame) (board : Position) (given : Bool) → Steps rule mode h p mid new board given
+      → given ≡ true → 0 < length mid → ShowsNext rule mode h p old new board true
   node_shown new board given s e some = grind (arith, s.walking, s.come, s.deep, s.ended, same)
 
   -- with no frame left nothing is to come
-  pub none_left : (board : Position) → IsWalking rule h p mid board → length mid ≡ 0 → ShowsNext rule plan h p old mid board false
+  pub none_left : (board : Position) → IsWalking rule h p mid board → length mid ≡ 0 → ShowsNext rule mode h p old mid board false
   unfolding to_come position
   none_left board r none = search (rules, nil_from_length mid none, r.board_at, same)
 
@@ -41,8 +41,8 @@ module _ (rule : RuleSet) (plan : Plan) (h : ℕ) (p : Position) (old mid : List
 module _ (rule : RuleSet) (problem : Posed) (battle : Battle) (fit : IsContest (record { battle = battle; stipulation = problem.stipulation })) where
   walk_comes : (r : Position) (frames : List Frame) → 2 ≤ half_moves problem.stipulation
       → value battle (game_of rule problem) (half_moves problem.stipulation - 2) r ≡ true
-      → ShowsBelow rule (plan_of problem) (half_moves problem.stipulation - 2) r frames
-      → to_come rule (plan_of problem) (half_moves problem.stipulation - 2) r frames
+      → ShowsBelow rule (mode_of problem) (half_moves problem.stipulation - 2) r frames
+      → to_come rule (mode_of problem) (half_moves problem.stipulation - 2) r frames
       ≡ below_reply battle (game_of rule problem) problem.stipulation.n problem.variation (half_moves problem.stipulation - 2) r
   walk_comes r frames deep v come =
       let l = long rule _ fit in
@@ -55,16 +55,16 @@ module _ (rule : RuleSet) (problem : Posed) (battle : Battle) (fit : IsContest (
   -- The walk from where Black has passed shows the threats.
   pub threats_come : (q : Position) (frames : List Frame)
       → has_threat battle (game_of rule problem) problem.stipulation.n (chess_passing rule) q ≡ true
-      → ShowsBelow rule (plan_of problem) (half_moves problem.stipulation - 2) (set_start q) frames
-      → to_come rule (plan_of problem) (half_moves problem.stipulation - 2) (set_start q) frames
+      → ShowsBelow rule (mode_of problem) (half_moves problem.stipulation - 2) (set_start q) frames
+      → to_come rule (mode_of problem) (half_moves problem.stipulation - 2) (set_start q) frames
       ≡ threat_nodes battle (game_of rule problem) problem.stipulation.n (chess_passing rule) problem.variation (half_moves problem.stipulation - 1) q
   threats_come q frames h come =
       rw (h, two_later) (walk_comes (set_start q) frames (two_half_moves rule _ fit q h) (value_if_passed rule _ fit q h) come)
 
   -- The walk from the position after a reply that doesn't refute shows what stands below it.
   pub reply_comes : (r : Position) (frames : List Frame) → is_in_set_play battle (game_of rule problem) problem.stipulation.n r ≡ true
-      → ShowsBelow rule (plan_of problem) (half_moves problem.stipulation - 2) r frames
-      → to_come rule (plan_of problem) (half_moves problem.stipulation - 2) r frames
+      → ShowsBelow rule (mode_of problem) (half_moves problem.stipulation - 2) r frames
+      → to_come rule (mode_of problem) (half_moves problem.stipulation - 2) r frames
       ≡ below_reply battle (game_of rule problem) problem.stipulation.n problem.variation (half_moves problem.stipulation - 2) r
   reply_comes r frames met come =
       let deep : 2 ≤ half_moves problem.stipulation = elim (cases_lt (half_moves problem.stipulation) 2) [

@@ -61,7 +61,7 @@ module _ (rule : RuleSet) (task : Task) where
 
   -- a group begins
   pub group_begins : (group : Group) → whole_group rule task group
-      ≡ beginning_of group ∷ group_left rule task {A = Unit {0}} (record { group = group; place = 0; count = 0; candidates = candidates_of None })
+      ≡ beginning_of group ∷ group_left rule task (record { group = group; place = 0; count = 0; candidates = candidates_of None })
   group_begins Keys =
       let all : task.problem.max_solutions - 0 ≡ task.problem.max_solutions = omega arith in
       let shown : List Move = take task.problem.max_solutions (key_moves task.battle rule task.problem) in
@@ -82,7 +82,7 @@ module _ (rule : RuleSet) (task : Task) where
 
   -- a group that the limit stops ends
   pub stopped_ends : (group : Group) (place count : ℕ) → is_stopped task.problem group count ≡ true
-      → group_left rule task {A = Unit {0}} (record { group = group; place = place; count = count; candidates = candidates_of None }) ≡ ending_of rule task group count
+      → group_left rule task (record { group = group; place = place; count = count; candidates = candidates_of None }) ≡ ending_of rule task group count
   stopped_ends Keys place count e =
       let none : task.problem.max_solutions - count ≡ 0 = grind (arith, nat_tests) in
       let same : count + 0 ≡ count = omega arith in
@@ -91,7 +91,7 @@ module _ (rule : RuleSet) (task : Task) where
 
   -- a group without further first moves ends
   pub emptied_ends : (group : Group) (place count : ℕ) → firsts_after rule task group place ≡ []
-      → group_left rule task {A = Unit {0}} (record { group = group; place = place; count = count; candidates = candidates_of None }) ≡ ending_of rule task group count
+      → group_left rule task (record { group = group; place = place; count = count; candidates = candidates_of None }) ≡ ending_of rule task group count
   emptied_ends group place count e =
       let same : count + 0 ≡ count = omega arith in
       rw (e, no_more group count, same) refl
@@ -105,10 +105,10 @@ module _ (rule : RuleSet) (task : Task) where
 
   module _ (group : Group) (place next count : ℕ) (m : Move) (found : firsts_after rule task group place ≡ m ∷ firsts_after rule task group next)
       (few : IsInLimit task.problem group count) (open_yet : is_stopped task.problem group count ≡ false) where
-    abbrev before : Firsts (Unit {0})
+    abbrev before : Firsts
     before = record { group = group; place = place; count = count; candidates = candidates_of None }
 
-    abbrev then : Firsts (Unit {0})
+    abbrev then : Firsts
     then = record { group = group; place = next; count = count + 1; candidates = candidates_of None }
 
     -- the next first move of a group

@@ -20,7 +20,7 @@ use Rattle.pop_tries.specs.ties.FirstMoves.{is_shown}
 use Rattle.pop_tries.specs.ties.Searching.{after_first, below_and_after, contest_of, refutations_after, replies_after, shown_after, walk_left}
 unfoldable use Rattle.pop_tries.specs.ties.Searching.{left_of}
 use Rattle.pop_tries.specs.ties.Starts.{ShowsBelow}
-use Rattle.pop_walk.specs.ties.Plans.{plan_of}
+use Rattle.pop_walk.specs.ties.Modes.{mode_of}
 use Rattle.pop_tries.proofs.Starts.{replies_come, threats_come}
 use Rattle.pop_tries.proofs.theorems.Threats.{has_threat_is}
 
@@ -35,7 +35,7 @@ last_below goal rule q d (m ∷ line) some = refl
 abbrev laid_out : Bool → Bool → Bool → List (List Move) → List (List Move) → List (Below Move)
 laid_out r c t paths replies = cond r (cond c check (cond t threat zugzwang) ∷ (map threatened (cond t paths []) ++ map reply replies)) []
 
-module _ {A : Type 0} (rule : RuleSet) (task : Task) (fit : IsContest (contest_of task)) (first : First A) where
+module _ (rule : RuleSet) (task : Task) (fit : IsContest (contest_of task)) (first : First) where
   abbrev q : Position
   q = after_first rule task first.by
 
@@ -72,7 +72,7 @@ module _ {A : Type 0} (rule : RuleSet) (task : Task) (fit : IsContest (contest_o
 
   -- the walk over the threats begins with all of them
   pub all_threats : (items : List Frame) → has_threat task.battle (game_of rule task.problem) task.problem.stipulation.n (chess_passing rule) q ≡ true
-      → ShowsBelow rule (plan_of task.problem) (half_moves task.problem.stipulation - 2) (set_start q) (reverse items)
+      → ShowsBelow rule (mode_of task.problem) (half_moves task.problem.stipulation - 2) (set_start q) (reverse items)
       → walk_left rule task (set_start q) items ≡ threat_paths
   all_threats items h come = threats_come rule task.problem task.battle fit q (reverse items) h come ∙ ap (λ b. cond b threat_paths []) h
 
@@ -93,14 +93,14 @@ module _ {A : Type 0} (rule : RuleSet) (task : Task) (fit : IsContest (contest_o
   replies_over place items e = rw e refl
 
   -- the next node below a reply
-  pub reply_goes_on : (played : Played A) (items frames : List Frame) (line : List Move)
+  pub reply_goes_on : (played : Played) (items frames : List Frame) (line : List Move)
       → walk_left rule task (position_after rule q played.by) items ≡ line ∷ walk_left rule task (position_after rule q played.by) frames
       → left_of rule task (BelowReply first played) items ≡ below first.by (reply (played.by ∷ line)) ∷ left_of rule task (BelowReply first played) frames
   unfolding left_of
   reply_goes_on played items frames line e = rw e refl
 
   -- after the last node below a reply
-  pub reply_over : (played : Played A) (items frames : List Frame) → walk_left rule task (position_after rule q played.by) items ≡ []
+  pub reply_over : (played : Played) (items frames : List Frame) → walk_left rule task (position_after rule q played.by) items ≡ []
       → left_of rule task (BelowReply first played) items ≡ left_of rule task (Reply first played.place) frames
   unfolding left_of
   reply_over played items frames e = rw e refl

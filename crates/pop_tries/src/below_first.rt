@@ -5,7 +5,7 @@ ghost use Rattle.chess_rules.specs.Legal.{is_legal};
 ghost use Rattle.chess_rules.specs.Play.{position_after, undo_of};
 ghost use Rattle.pop_events.specs.Shown.{shown_move};
 ghost use Rattle.pop_input.specs.Posed.{IsSound};
-ghost use Rattle.pop_walk.specs.ties.Plans.{plan_of};
+ghost use Rattle.pop_walk.specs.ties.Modes.{mode_of};
 ghost use Rattle.pop_walk.specs.ties.Walk.{IsWalking};
 ghost use Rattle.pop_tries.specs.ties.Starts.{base_position, Base, ShowsBelow};
 ghost use Rattle.chess_core.specs.Position.{Position};
@@ -24,16 +24,14 @@ use crate::first_moves::{Group, next_refutation, next_reply};
 use crate::shown::shown;
 use crate::stage::{First, Played, Step, Task, TriesStage};
 use crate::threats::{find_threat, pass, unpass};
-use chess_core::board::Board;
-use chess_core::man::Move;
-use chess_core::square::Square;
-use chess_rules::{Moves, Rules, Undo, has_legal_move, in_check, play, unplay};
+use chess_core::{Board, Move, Square};
+use chess_rules::{MovePlace, Rules, Undo, has_legal_move, in_check, play, unplay};
 use pop_events::TryEvent;
-use pop_walk::plan::Plan;
+use pop_walk::mode::Mode;
 
 /// Takes a first move back. Returns the next stage.
 #[tactic(auto, using(chess_rules::proofs::LegalMoves::may_be_made))]
-fn end_first<R: Rules>(first: First<R>, board: &mut Board) -> TriesStage<R>
+fn end_first<R: Rules>(first: First, board: &mut Board) -> TriesStage
     requires came { (p : Position) × CameBy R.rule first.by first.undo board.old p }
     ensures stage { result ≡ FirstMove first.firsts }
     ensures back { (p : Position) → CameBy R.rule first.by first.undo board.old p → board.new ≡ p }
@@ -46,7 +44,7 @@ fn end_first<R: Rules>(first: First<R>, board: &mut Board) -> TriesStage<R>
 
 /// Ends what is shown below a first move, but for the refutations of a try. Returns the next stage.
 #[tactic(auto, unfolding(crate::specs::ties::Searching::HoldsAt, crate::specs::ties::Searching::left_of, crate::specs::ties::Searching::rank))]
-fn end_replies<R: Rules>(task: &Task, first: First<R>, board: &mut Board) -> TriesStage<R>
+fn end_replies<R: Rules>(task: &Task, first: First, board: &mut Board) -> TriesStage
     requires contest { IsContest (contest_of task.now) }
     requires first { IsFirst R.rule task.now first }
     requires board { board.old ≡ after_first R.rule task.now first.by }
@@ -55,7 +53,7 @@ fn end_replies<R: Rules>(task: &Task, first: First<R>, board: &mut Board) -> Tri
     ensures rank { rank result ≡ 0 }
 {
     match first.firsts.group {
-        Group::Keys => end_first(first, board),
+        Group::Keys => end_first::<R>(first, board),
         Group::Tries { .. } => TriesStage::But { first },
     }
 }
@@ -64,15 +62,15 @@ fn end_replies<R: Rules>(task: &Task, first: First<R>, board: &mut Board) -> Tri
 #[tactic(auto, unfolding(crate::specs::ties::Searching::HoldsAt, crate::specs::ties::Searching::rank))]
 pub(crate) fn face<R: Rules, const N: usize>(
     task: &Task,
-    first: First<R>,
+    first: First,
     desk: &mut Desk<R, N>,
-) -> Step<R>
+) -> Step
     requires { MayStep R.rule task.now (Faced first) desk.old N }
     ensures { Goes R.rule task.now (Faced first) desk.old result.stage desk.new result.event }
 {
     if !has_legal_move::<R>(&mut desk.board) {
         return Step {
-            stage: end_replies(task, first, &mut desk.board),
+            stage: end_replies::<R>(task, first, &mut desk.board),
             event: None,
         };
     }
@@ -85,7 +83,7 @@ pub(crate) fn face<R: Rules, const N: usize>(
     Step {
         stage: TriesStage::Reply {
             first,
-            place: Moves::start(),
+            place: MovePlace::start(),
         },
         event: Some(faced_event(checked)),
     }
@@ -104,11 +102,7 @@ fn faced_event(checked: bool) -> TryEvent
 
 /// Lets Black pass and opens the walk over the threats.
 #[tactic(auto, unfolding(crate::specs::ties::Searching::HoldsAt, crate::specs::ties::Searching::rank))]
-fn begin_threats<R: Rules, const N: usize>(
-    task: &Task,
-    first: First<R>,
-    desk: &mut Desk<R, N>,
-) -> Step<R>
+fn begin_threats<R: Rules, const N: usize>(task: &Task, first: First, desk: &mut Desk<R, N>) -> Step
     requires may_step { MayStep R.rule task.now (Faced first) desk.old N }
     requires threat { AreThreats R.rule (contest_of task.now) (after_first R.rule task.now first.by)
         first.threat }
@@ -118,7 +112,7 @@ fn begin_threats<R: Rules, const N: usize>(
     ensures { Goes R.rule task.now (Faced first) desk.old result.stage desk.new result.event }
 {
     let crossed = pass(&mut desk.board);
-    open_walk::<R, N>(Plan::of(&task.problem), task.half_moves_below(), desk);
+    open_walk::<R, N>(Mode::of(&task.problem), task.half_moves_below(), desk);
     Step {
         stage: TriesStage::Threats { first, crossed },
         event: Some(TryEvent::Threat),
@@ -139,11 +133,11 @@ fn next_node<R: Rules, const N: usize>(task: &Task, desk: &mut Desk<R, N>) -> Op
         → ShowsNode R.rule task.now first base desk.old.frames.items desk.new.frames.items
         desk.new.board result }
 {
-    let plan = Plan::of(&task.problem);
-    if !walk_on::<R, N>(plan, task.half_moves_below(), desk) {
+    let mode = Mode::of(&task.problem);
+    if !walk_on::<R, N>(mode, task.half_moves_below(), desk) {
         return None;
     }
-    let node = shown_node::<R>(plan, desk.frames.as_slice(), &mut desk.board);
+    let node = shown_node::<R>(mode, desk.frames.as_slice(), &mut desk.board);
     Some(TryEvent::Node {
         depth: node.depth,
         half: node.half,
@@ -155,10 +149,10 @@ fn next_node<R: Rules, const N: usize>(task: &Task, desk: &mut Desk<R, N>) -> Op
 #[tactic(auto, unfolding(crate::specs::ties::Searching::HoldsAt, crate::specs::ties::Searching::rank))]
 pub(crate) fn walk_threats<R: Rules, const N: usize>(
     task: &Task,
-    first: First<R>,
+    first: First,
     crossed: Option<Square>,
     desk: &mut Desk<R, N>,
-) -> Step<R>
+) -> Step
     requires { MayStep R.rule task.now (Threats first crossed) desk.old N }
     ensures { Goes R.rule task.now (Threats first crossed) desk.old result.stage desk.new
         result.event }
@@ -174,7 +168,7 @@ pub(crate) fn walk_threats<R: Rules, const N: usize>(
     Step {
         stage: TriesStage::Reply {
             first,
-            place: Moves::start(),
+            place: MovePlace::start(),
         },
         event: None,
     }
@@ -196,13 +190,13 @@ fn play_reply<R: Rules, const N: usize>(
         desk.old.board by) }
     ensures walking { IsWalking R.rule (half_moves task.now.problem.stipulation - 2)
         (position_after R.rule desk.old.board by) (reverse desk.new.frames.items) desk.new.board }
-    ensures come { ShowsBelow R.rule (plan_of task.now.problem)
+    ensures come { ShowsBelow R.rule (mode_of task.now.problem)
         (half_moves task.now.problem.stipulation - 2)
         (position_after R.rule desk.old.board by) (reverse desk.new.frames.items) }
 {
     let shown = shown::<R>(task.problem.stipulation().goal, by, &mut desk.board);
     let undo = play::<R>(&mut desk.board, by);
-    open_walk::<R, N>(Plan::of(&task.problem), task.half_moves_below(), desk);
+    open_walk::<R, N>(Mode::of(&task.problem), task.half_moves_below(), desk);
     let event = TryEvent::Node {
         depth: 1,
         half: 2,
@@ -216,10 +210,10 @@ fn play_reply<R: Rules, const N: usize>(
 #[tactic(auto, using(chess_rules::proofs::LegalMoves::may_be_made), unfolding(crate::specs::ties::Searching::HoldsAt, crate::specs::ties::Searching::rank))]
 pub(crate) fn find_reply<R: Rules, const N: usize>(
     task: &Task,
-    first: First<R>,
-    place: Moves<R>,
+    first: First,
+    place: MovePlace,
     desk: &mut Desk<R, N>,
-) -> Step<R>
+) -> Step
     requires { MayStep R.rule task.now (Reply first place) desk.old N }
     ensures { Goes R.rule task.now (Reply first place) desk.old result.stage desk.new result.event }
 {
@@ -227,7 +221,7 @@ pub(crate) fn find_reply<R: Rules, const N: usize>(
     let found = next_reply::<R, N>(task.contest(), &first, &mut next, desk);
     let Some(by) = found else {
         return Step {
-            stage: end_replies(task, first, &mut desk.board),
+            stage: end_replies::<R>(task, first, &mut desk.board),
             event: None,
         };
     };
@@ -247,10 +241,10 @@ pub(crate) fn find_reply<R: Rules, const N: usize>(
 #[tactic(auto, unfolding(crate::specs::ties::Searching::HoldsAt, crate::specs::ties::Searching::rank))]
 pub(crate) fn walk_reply<R: Rules, const N: usize>(
     task: &Task,
-    first: First<R>,
-    reply: Played<R>,
+    first: First,
+    reply: Played,
     desk: &mut Desk<R, N>,
-) -> Step<R>
+) -> Step
     requires { MayStep R.rule task.now (BelowReply first reply) desk.old N }
     ensures { Goes R.rule task.now (BelowReply first reply) desk.old result.stage desk.new
         result.event }
@@ -276,9 +270,9 @@ pub(crate) fn walk_reply<R: Rules, const N: usize>(
 #[tactic(auto, unfolding(crate::specs::ties::Searching::HoldsAt, crate::specs::ties::Searching::rank))]
 pub(crate) fn begin_refutations<R: Rules, const N: usize>(
     task: &Task,
-    first: First<R>,
+    first: First,
     desk: &mut Desk<R, N>,
-) -> Step<R>
+) -> Step
     requires holds { HoldsAt R.rule task.now (But first) desk.old.frames.items desk.old.board }
     ensures { Goes R.rule task.now (But first) desk.old result.stage desk.new result.event }
 {
@@ -291,7 +285,7 @@ pub(crate) fn begin_refutations<R: Rules, const N: usize>(
     Step {
         stage: TriesStage::Refutation {
             first,
-            place: Moves::start(),
+            place: MovePlace::start(),
         },
         event: Some(TryEvent::But),
     }
@@ -301,15 +295,15 @@ pub(crate) fn begin_refutations<R: Rules, const N: usize>(
 #[tactic(auto, unfolding(crate::specs::ties::Searching::HoldsAt, crate::specs::ties::Searching::rank))]
 pub(crate) fn end_stalemate<R: Rules, const N: usize>(
     task: &Task,
-    first: First<R>,
+    first: First,
     desk: &mut Desk<R, N>,
-) -> Step<R>
+) -> Step
     requires holds { HoldsAt R.rule task.now (Stalemate first) desk.old.frames.items
         desk.old.board }
     ensures { Goes R.rule task.now (Stalemate first) desk.old result.stage desk.new result.event }
 {
     Step {
-        stage: end_first(first, &mut desk.board),
+        stage: end_first::<R>(first, &mut desk.board),
         event: Some(TryEvent::Stalemate),
     }
 }
@@ -318,10 +312,10 @@ pub(crate) fn end_stalemate<R: Rules, const N: usize>(
 #[tactic(auto, unfolding(crate::specs::ties::Searching::HoldsAt, crate::specs::ties::Searching::rank))]
 pub(crate) fn find_refutation<R: Rules, const N: usize>(
     task: &Task,
-    first: First<R>,
-    place: Moves<R>,
+    first: First,
+    place: MovePlace,
     desk: &mut Desk<R, N>,
-) -> Step<R>
+) -> Step
     requires { MayStep R.rule task.now (Refutation first place) desk.old N }
     ensures { Goes R.rule task.now (Refutation first place) desk.old result.stage desk.new
         result.event }
@@ -330,7 +324,7 @@ pub(crate) fn find_refutation<R: Rules, const N: usize>(
     let found = next_refutation::<R, N>(task.contest(), first.refuting, &mut next, desk);
     let Some(by) = found else {
         return Step {
-            stage: end_first(first, &mut desk.board),
+            stage: end_first::<R>(first, &mut desk.board),
             event: None,
         };
     };

@@ -2,7 +2,7 @@
 ghost use Rattle.std.specs.Prelude.{◌≡◌, []};
 
 use arrayvec::ArrayVec;
-use chess_core::board::Board;
+use chess_core::Board;
 use chess_rules::Rules;
 use pop_battle::frame::Frame;
 use pop_battle::killers::Killers;
@@ -14,7 +14,7 @@ use pop_battle::search_state::SearchState;
 pub struct Desk<R: Rules, const N: usize> {
     pub board: Board,
     pub frames: ArrayVec<Frame<R>, N>,
-    pub search_state: SearchState<R>,
+    pub search_state: SearchState,
 }
 
 impl<R: Rules, const N: usize> Desk<R, N> {

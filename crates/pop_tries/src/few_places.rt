@@ -3,7 +3,7 @@ ghost use Rattle.std.specs.Prelude.{◌≡◌, List, ◌∷◌};
 ghost use Rattle.chess_core.specs.declared.man.Move.{Move};
 ghost use Rattle.pop_tries.specs.ties.FewPlaces.{are_few, AreAt, IsPlaceOf};
 
-/// The places of at most two moves in the order of moves, as numbers of `Moves`. Nothing is known of more
+/// The places of at most two moves in the order of moves, as numbers of `MovePlace`. Nothing is known of more
 /// moves.
 #[derive(Clone, Copy)]
 pub enum FewPlaces {

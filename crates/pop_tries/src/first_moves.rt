@@ -19,8 +19,8 @@ use crate::replies::{
 };
 use crate::stage::{First, Firsts, MOST_REFUTATIONS, Task};
 use crate::threats::is_defence;
-use chess_core::man::Move;
-use chess_rules::{Moves, Rules, Undo, play, unplay};
+use chess_core::Move;
+use chess_rules::{MovePlace, Rules, Undo, play, unplay};
 use pop_battle::chess::next_move;
 
 /// Which first moves are shown.
@@ -70,7 +70,7 @@ fn is_key_or_noted<R: Rules, const N: usize>(
     }
     if tally.count <= task.most {
         *candidates = noted(*candidates, by);
-        *refuting = Some(tally.known());
+        *refuting = Some(tally.refuting_kept());
     }
     false
 }
@@ -81,7 +81,7 @@ fn is_key_or_noted<R: Rules, const N: usize>(
 #[tactic(auto, using(crate::proofs::Candidates::key_refuting, crate::proofs::Loops::filtering, chess_rules::proofs::LegalMoves::may_be_made))]
 fn play_next_key<R: Rules, const N: usize>(
     task: &Task,
-    place: &mut Moves<R>,
+    place: &mut MovePlace,
     candidates: &mut Candidates,
     desk: &mut Desk<R, N>,
 ) -> Option<(Move, Undo, Refuting)>
@@ -101,8 +101,8 @@ fn play_next_key<R: Rules, const N: usize>(
     ensures kept { AreKept R.rule (contest_of task.now) task.now.most desk.old.board
         candidates.new.kept }
 {
-    let mut known = None;
-    while let Some(by) = next_move::<R>(&mut known, place, &mut desk.board) {
+    let mut cursor = None;
+    while let Some(by) = next_move::<R>(&mut cursor, place, &mut desk.board) {
         let undo = play::<R>(&mut desk.board, by);
         let mut refuting = None;
         if is_key_or_noted::<R, N>(task, by, &mut candidates.set, &mut refuting, desk) {
@@ -143,7 +143,7 @@ fn is_try_as_kept<R: Rules, const N: usize>(
 #[tactic(auto, using(crate::proofs::Loops::filtering, chess_rules::proofs::LegalMoves::may_be_made))]
 fn play_next_try<R: Rules, const N: usize>(
     task: &Task,
-    place: &mut Moves<R>,
+    place: &mut MovePlace,
     candidates: &Candidates,
     index: u32,
     desk: &mut Desk<R, N>,
@@ -159,8 +159,8 @@ fn play_next_try<R: Rules, const N: usize>(
         desk.new.board place.old place.new result }
 {
     let contest = task.contest();
-    let mut known = None;
-    while let Some(by) = next_move::<R>(&mut known, place, &mut desk.board) {
+    let mut cursor = None;
+    while let Some(by) = next_move::<R>(&mut cursor, place, &mut desk.board) {
         if may_be(candidates.set, by) {
             let undo = play::<R>(&mut desk.board, by);
             let kept = candidates.kept_at(index as usize, place.number());
@@ -179,7 +179,7 @@ fn play_next_try<R: Rules, const N: usize>(
 /// unchanged.
 pub fn play_next<R: Rules, const N: usize>(
     task: &Task,
-    firsts: &mut Firsts<R>,
+    firsts: &mut Firsts,
     desk: &mut Desk<R, N>,
 ) -> Option<(Move, Undo, Refuting)>
     requires ready { IsReady (contest_of task.now) desk.old N }
@@ -213,7 +213,7 @@ pub fn play_next<R: Rules, const N: usize>(
 /// defence that doesn't refute. It reads nothing of `first` but what is known of threats and refutations.
 fn is_shown<R: Rules, const N: usize>(
     contest: Contest,
-    first: &First<R>,
+    first: &First,
     by: Move,
     place: u16,
     desk: &mut Desk<R, N>,
@@ -238,8 +238,8 @@ fn is_shown<R: Rules, const N: usize>(
 #[tactic(auto, using(crate::proofs::Loops::filtering))]
 pub fn next_reply<R: Rules, const N: usize>(
     contest: Contest,
-    first: &First<R>,
-    place: &mut Moves<R>,
+    first: &First,
+    place: &mut MovePlace,
     desk: &mut Desk<R, N>,
 ) -> Option<Move>
     requires ready { IsReady contest desk.old N }
@@ -249,8 +249,8 @@ pub fn next_reply<R: Rules, const N: usize>(
     ensures next { IsNext R.rule desk.old.board (is_shown R.rule contest desk.old.board)
         place.old place.new result }
 {
-    let mut known = None;
-    while let Some(by) = next_move::<R>(&mut known, place, &mut desk.board) {
+    let mut cursor = None;
+    while let Some(by) = next_move::<R>(&mut cursor, place, &mut desk.board) {
         if is_shown::<R, N>(contest, first, by, place.number(), desk) {
             return Some(by);
         }
@@ -264,7 +264,7 @@ pub fn next_reply<R: Rules, const N: usize>(
 pub fn next_refutation<R: Rules, const N: usize>(
     contest: Contest,
     refuting: Refuting,
-    place: &mut Moves<R>,
+    place: &mut MovePlace,
     desk: &mut Desk<R, N>,
 ) -> Option<Move>
     requires ready { IsReady contest desk.old N }
@@ -273,8 +273,8 @@ pub fn next_refutation<R: Rules, const N: usize>(
     ensures next { IsNext R.rule desk.old.board (refutes R.rule contest desk.old.board)
         place.old place.new result }
 {
-    let mut known = None;
-    while let Some(by) = next_move::<R>(&mut known, place, &mut desk.board) {
+    let mut cursor = None;
+    while let Some(by) = next_move::<R>(&mut cursor, place, &mut desk.board) {
         if is_refutation::<R, N>(contest, refuting, by, place.number(), desk) {
             return Some(by);
         }

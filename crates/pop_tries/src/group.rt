@@ -17,13 +17,12 @@ use crate::move_set::MoveSet;
 use crate::refuting::Refuting;
 use crate::shown::shown;
 use crate::stage::{First, Firsts, Step, Task, TriesStage};
-use chess_core::board::Board;
-use chess_core::man::Move;
-use chess_rules::{Moves, Rules, Undo, play, unplay};
+use chess_core::{Board, Move};
+use chess_rules::{MovePlace, Rules, Undo, play, unplay};
 use pop_events::{Shown, TryEvent};
 
 /// Returns the stage before the keys.
-pub(crate) fn beginning_of_keys<R: Rules>() -> TriesStage<R>
+pub(crate) fn beginning_of_keys() -> TriesStage
     ensures { result ≡ Beginning Keys (candidates_of None) }
 {
     TriesStage::Beginning {
@@ -50,9 +49,9 @@ pub(crate) fn begin_group<R: Rules, const N: usize>(
     group: Group,
     candidates: Candidates,
     desk: &Desk<R, N>,
-) -> Step<R>
+) -> Step
     requires task { IsTask task.now }
-    requires holds { HoldsAt R.rule task.now {A = R} (Beginning group candidates)
+    requires holds { HoldsAt R.rule task.now (Beginning group candidates)
         desk.now.frames.items desk.now.board }
     ensures { Goes R.rule task.now (Beginning group candidates) desk.now result.stage desk.now
         result.event }
@@ -61,7 +60,7 @@ pub(crate) fn begin_group<R: Rules, const N: usize>(
         stage: TriesStage::FirstMove {
             firsts: Firsts {
                 group,
-                place: Moves::start(),
+                place: MovePlace::start(),
                 count: 0,
                 candidates: first_candidates(group, candidates),
             },
@@ -95,7 +94,7 @@ fn first_event(group: Group, shown: Shown) -> TryEvent
 
 /// Ends a group with its total. After the keys the tries follow, which are among `candidates`.
 #[tactic(auto, unfolding(crate::specs::ties::Searching::HoldsAt, crate::specs::ties::Searching::left_of, crate::specs::ties::Searching::rank))]
-fn end_group<R: Rules>(task: &Task, group: Group, count: u32, candidates: Candidates) -> Step<R>
+fn end_group<R: Rules>(task: &Task, group: Group, count: u32, candidates: Candidates) -> Step
     requires task { IsTask task.now }
     requires contest { IsContest (contest_of task.now) }
     requires candidates { HoldTries R.rule task.now candidates }
@@ -129,22 +128,22 @@ fn end_group<R: Rules>(task: &Task, group: Group, count: u32, candidates: Candid
 #[tactic(auto, using(chess_rules::proofs::LegalMoves::may_be_made), unfolding(crate::specs::ties::Searching::HoldsAt, crate::specs::ties::Searching::rank))]
 pub(crate) fn find_first<R: Rules, const N: usize>(
     task: &Task,
-    firsts: Firsts<R>,
+    firsts: Firsts,
     desk: &mut Desk<R, N>,
-) -> Step<R>
+) -> Step
     requires { MayStep R.rule task.now (FirstMove firsts) desk.old N }
     ensures { Goes R.rule task.now (FirstMove firsts) desk.old result.stage desk.new result.event }
 {
     let group = firsts.group;
     if is_stopped(task, group, firsts.count) {
-        return end_group(task, group, firsts.count, Candidates::of(None));
+        return end_group::<R>(task, group, firsts.count, Candidates::of(None));
     }
     let mut next = firsts;
     let found = play_next::<R, N>(task, &mut next, desk);
     let Some((by, undo, refuting)) = found else {
-        return end_group(task, group, firsts.count, next.candidates);
+        return end_group::<R>(task, group, firsts.count, next.candidates);
     };
-    begin_first(task, next.counted(), by, undo, refuting, &mut desk.board)
+    begin_first::<R>(task, next.counted(), by, undo, refuting, &mut desk.board)
 }
 
 /// Shows a first move that has been played: takes it back, since it is shown from the position before it, and
@@ -152,12 +151,12 @@ pub(crate) fn find_first<R: Rules, const N: usize>(
 #[tactic(auto, using(chess_rules::proofs::LegalMoves::may_be_made))]
 fn begin_first<R: Rules>(
     task: &Task,
-    firsts: Firsts<R>,
+    firsts: Firsts,
     by: Move,
     undo: Undo,
     refuting: Refuting,
     board: &mut Board,
-) -> Step<R>
+) -> Step
     requires came { CameBy R.rule by undo board.old (play_start task.now.problem) }
     ensures unchanged { board.new ≡ board.old }
     ensures stage { result.stage ≡ Faced

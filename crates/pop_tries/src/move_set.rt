@@ -3,8 +3,7 @@ ghost use Rattle.std.specs.Prelude.{◌≡◌, false, true};
 ghost use Rattle.chess_core.specs.declared.man.Move.{Move};
 ghost use Rattle.pop_tries.specs.ties.MoveSets.{may_be, may_hold, no_moves};
 
-use chess_core::man::Move;
-use chess_core::square::Squares;
+use chess_core::{Move, Squares};
 
 /// A set that may hold more than the moves put into it: all moves from one of their origins to one of their
 /// arrivals.
@@ -43,17 +42,6 @@ impl MoveSet {
             origins: self.origins | 1u64 << by.from.index(),
             arrivals: self.arrivals | 1u64 << by.to.index(),
         }
-    }
-
-    /// Returns the set with the move put into it if `meets`.
-    pub fn with_if(self, meets: bool, by: Move) -> MoveSet
-        ensures put { meets ≡ true → may_hold result by ≡ true }
-        ensures kept { (m : Move) → may_hold self m ≡ true → may_hold result m ≡ true }
-    {
-        if meets {
-            return self.with(by);
-        }
-        self
     }
 }
 

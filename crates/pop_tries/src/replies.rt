@@ -16,9 +16,8 @@ use crate::desk::Desk;
 use crate::move_set::MoveSet;
 use crate::refuting::Refuting;
 use crate::stage::MOST_REFUTATIONS;
-use chess_core::board::Board;
-use chess_core::man::{Kind, Man, Move};
-use chess_rules::{Moves, Rules, has_legal_move, in_check, is_stalemate, play, unplay};
+use chess_core::{Board, Kind, Man, Move};
+use chess_rules::{MovePlace, Rules, has_legal_move, in_check, is_stalemate, play, unplay};
 use pop_battle::chess::{next_move, reaches_goal};
 use pop_battle::value::value_of;
 use pop_stipulation::{Battle, Goal};
@@ -124,7 +123,7 @@ pub fn is_key_unrefuted<R: Rules>(contest: Contest, board: &mut Board) -> bool
 #[derive(Clone, Copy, Debug)]
 pub enum Counted {
     All,
-    /// The replies that give check or take a queen or a rook.
+    /// The replies that give check or capture a queen or a rook.
     Forcing,
     /// The replies that don't.
     Others,
@@ -143,7 +142,7 @@ pub struct Tally {
 
 impl Tally {
     /// Returns what is known of the refutations.
-    pub fn known(self) -> Refuting
+    pub fn refuting_kept(self) -> Refuting
         ensures { result ≡ record { moves = self.refuting; last = self.last } }
     {
         Refuting {
@@ -177,7 +176,7 @@ fn is_heavy(man: Option<Man>) -> bool
     }
 }
 
-/// Returns whether the legal move `by` gives check or takes a queen or a rook.
+/// Returns whether the legal move `by` gives check or captures a queen or a rook.
 fn is_forcing<R: Rules>(by: Move, board: &mut Board) -> bool
     requires well_formed { IsWellFormed board.old }
     requires legal { is_legal R.rule board.old by ≡ true }
@@ -249,13 +248,13 @@ fn count_among<R: Rules, const N: usize>(
     ensures last { IsRefutedAt R.rule contest desk.old.board result.last }
     ensures rest { Keeps desk.old desk.new }
 {
-    let mut known = None;
-    let mut place = Moves::<R>::start();
+    let mut cursor = None;
+    let mut place = MovePlace::start();
     let left = half_moves_of_replies(contest);
     let mut count = tally.count;
     let mut refuting = tally.refuting;
     let mut last = tally.last;
-    while let Some(by) = next_move::<R>(&mut known, &mut place, &mut desk.board) {
+    while let Some(by) = next_move::<R>(&mut cursor, &mut place, &mut desk.board) {
         if refutes_among::<R, N>(contest, counted, by, desk) {
             count += 1;
             refuting = refuting.with(by);
@@ -316,7 +315,7 @@ pub fn count_refutations<R: Rules, const N: usize>(
 /// refutes it.
 fn refutes_at<R: Rules, const N: usize>(
     contest: Contest,
-    place: Moves<R>,
+    place: MovePlace,
     desk: &mut Desk<R, N>,
 ) -> bool
     requires ready { IsReady contest desk.old N }
@@ -324,7 +323,7 @@ fn refutes_at<R: Rules, const N: usize>(
         (moves_between R.rule desk.old.board (place - 1) place)) ≡ 1 }
     ensures rest { Keeps desk.old desk.new }
 {
-    let Some(by) = place.legal_move(&mut desk.board) else {
+    let Some(by) = place.legal_move::<R>(&mut desk.board) else {
         return false;
     };
     refutes::<R, N>(contest, by, desk)
@@ -374,7 +373,7 @@ fn is_refuted_by_stalemate<R: Rules>(contest: Contest, board: &mut Board) -> boo
 /// Returns whether the first move that led to the board's position is a try with at most `most` refutations.
 /// A refuted move is no key, so the number of refutations decides, or stalemate where no reply refutes. Sets
 /// `refuting` to the refutations of a try.
-#[tactic(auto, using(crate::proofs::Contests::trying, crate::proofs::Counts::known_refuting))]
+#[tactic(auto, using(crate::proofs::Contests::trying, crate::proofs::Counts::refuting_is_kept))]
 pub fn is_try<R: Rules, const N: usize>(
     contest: Contest,
     most: u32,
@@ -392,7 +391,7 @@ pub fn is_try<R: Rules, const N: usize>(
         return false;
     }
     let tally = count_refutations::<R, N>(contest, most, desk);
-    *refuting = tally.known();
+    *refuting = tally.refuting_kept();
     if tally.count == 0 {
         return is_refuted_by_stalemate::<R>(contest, &mut desk.board);
     }

@@ -11,7 +11,7 @@ use crate::desk::Desk;
 use crate::group::{begin_group, beginning_of_keys, find_first};
 use crate::set_play::{begin_set_play, walk_set_play};
 use crate::stage::{Course, MOST_REFUTATIONS, Step, Task, TriesStage};
-use chess_core::board::Board;
+use chess_core::Board;
 use chess_rules::Rules;
 use pop_events::{Event, TryEvent};
 use pop_input::problem::Problem;
@@ -25,7 +25,7 @@ use std::marker::Model;
 pub struct TriesSearch<R: Rules, const N: usize> {
     problem: Problem,
     most: u32,
-    course: Course<R>,
+    course: Course,
     desk: Desk<R, N>,
 }
 
@@ -63,7 +63,7 @@ impl<R: Rules, const N: usize> TriesSearch<R, N> {
         TriesSearch {
             problem: *problem,
             most,
-            course: first_course::<R>(problem),
+            course: first_course(problem),
             desk: Desk::with(Board::of(&problem.diagram())),
         }
     }
@@ -95,7 +95,7 @@ impl<R: Rules, const N: usize> TriesSearch<R, N> {
 }
 
 /// Returns the whole course of a problem.
-fn first_course<R: Rules>(problem: &Problem) -> Course<R>
+fn first_course(problem: &Problem) -> Course
     ensures { result ≡ first_course problem.now }
 {
     let Some(battle) = problem.stipulation().form.battle() else {
@@ -110,7 +110,7 @@ fn first_course<R: Rules>(problem: &Problem) -> Course<R>
 }
 
 /// Returns whether nothing is left to return.
-fn is_over<R: Rules>(stage: TriesStage<R>) -> bool
+fn is_over(stage: TriesStage) -> bool
     ensures { result ≡ is_over stage }
 {
     matches!(stage, TriesStage::Over)
@@ -120,9 +120,9 @@ fn is_over<R: Rules>(stage: TriesStage<R>) -> bool
 #[tactic(auto, unfolding(crate::specs::ties::Searching::HoldsAt, crate::specs::ties::Searching::left_of, crate::specs::ties::Searching::rank))]
 fn take_step<R: Rules, const N: usize>(
     task: &Task,
-    stage: TriesStage<R>,
+    stage: TriesStage,
     desk: &mut Desk<R, N>,
-) -> Step<R>
+) -> Step
     requires may_step { MayStep R.rule task.now stage desk.old N }
     requires open { is_over stage ≡ false }
     ensures { Goes R.rule task.now stage desk.old result.stage desk.new result.event }
@@ -152,7 +152,7 @@ fn take_step<R: Rules, const N: usize>(
 /// Takes steps up to the next event, and updates the stage. Returns `None` after the last event.
 fn next_event<R: Rules, const N: usize>(
     task: &Task,
-    stage: &mut TriesStage<R>,
+    stage: &mut TriesStage,
     desk: &mut Desk<R, N>,
 ) -> Option<TryEvent>
     requires { MayStep R.rule task.now stage.old desk.old N }

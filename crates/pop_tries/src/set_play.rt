@@ -6,19 +6,16 @@ ghost use Rattle.pop_tries.specs.ties.Searching.{Goes, HoldsAt, MayStep};
 use crate::desk::Desk;
 use crate::group::beginning_of_keys;
 use crate::stage::{Step, Task, TriesStage};
-use chess_rules::{Moves, Rules};
+use chess_rules::{MovePlace, Rules};
 use pop_battle::frame::Frame;
 use pop_events::{Event, Phase, TryEvent};
+use pop_walk::mode::Mode;
 use pop_walk::phases::{Scope, Stage, Walk, advance, phase_half_moves, set_up};
-use pop_walk::plan::Plan;
 
 /// Begins set play, or finds that it isn't possible.
 #[tactic(auto, unfolding(crate::specs::ties::Searching::HoldsAt, crate::specs::ties::Searching::rank))]
-pub(crate) fn begin_set_play<R: Rules, const N: usize>(
-    task: &Task,
-    desk: &mut Desk<R, N>,
-) -> Step<R>
-    requires { MayStep {A = R} R.rule task.now SetPlay desk.old N }
+pub(crate) fn begin_set_play<R: Rules, const N: usize>(task: &Task, desk: &mut Desk<R, N>) -> Step
+    requires { MayStep R.rule task.now SetPlay desk.old N }
     ensures { Goes R.rule task.now SetPlay desk.old result.stage desk.new result.event }
 {
     let phase = Phase::Set;
@@ -31,14 +28,14 @@ pub(crate) fn begin_set_play<R: Rules, const N: usize>(
     }
     let left = phase_half_moves(&task.problem, phase);
     desk.frames.push(Frame {
-        place: Moves::start(),
+        place: MovePlace::start(),
         left,
-        known: None,
+        cursor: None,
         ..Frame::default()
     });
     let walk = Walk {
         phase,
-        plan: Plan::of(&task.problem),
+        mode: Mode::of(&task.problem),
         half_moves: left,
         scope: Scope::Part,
     };
@@ -56,8 +53,8 @@ pub(crate) fn walk_set_play<R: Rules, const N: usize>(
     task: &Task,
     stage: Stage,
     desk: &mut Desk<R, N>,
-) -> Step<R>
-    requires { MayStep {A = R} R.rule task.now (Within stage) desk.old N }
+) -> Step
+    requires { MayStep R.rule task.now (Within stage) desk.old N }
     ensures { Goes R.rule task.now (Within stage) desk.old result.stage desk.new result.event }
 {
     let mut stage = stage;

@@ -4,8 +4,7 @@ ghost use Rattle.chess_core.specs.WellFormed.{IsWellFormed};
 ghost use Rattle.chess_rules.specs.Legal.{is_legal};
 ghost use Rattle.pop_events.specs.Shown.{shown_move};
 
-use chess_core::board::Board;
-use chess_core::man::Move;
+use chess_core::{Board, Move};
 use chess_rules::{Rules, play, unplay};
 use pop_battle::chess::{Reached, mark_after, shown_of};
 use pop_events::Shown;

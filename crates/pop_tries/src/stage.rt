@@ -9,9 +9,8 @@ use crate::first_moves::Group;
 use crate::kept_tries::Candidates;
 use crate::refuting::Refuting;
 use crate::threats::Threat;
-use chess_core::man::Move;
-use chess_core::square::Square;
-use chess_rules::{Moves, Rules, Undo};
+use chess_core::{Move, Square};
+use chess_rules::{MovePlace, Undo};
 use pop_events::TryEvent;
 use pop_input::problem::Problem;
 use pop_stipulation::Battle;
@@ -51,17 +50,17 @@ impl Task {
 
 /// A place among the first moves of a group.
 #[derive(Clone, Copy)]
-pub struct Firsts<R: Rules> {
+pub struct Firsts {
     pub group: Group,
     /// The place in the order of moves.
-    pub place: Moves<R>,
+    pub place: MovePlace,
     /// How many first moves of the group have been shown.
     pub count: u32,
     /// The first moves that may be tries, among the keys those up to the place.
     pub candidates: Candidates,
 }
 
-impl<R: Rules> Firsts<R> {
+impl Firsts {
     /// Returns the place after one more first move.
     pub(crate) fn counted(self) -> Self
         requires few { self.count ≤ all_triples }
@@ -76,9 +75,9 @@ impl<R: Rules> Firsts<R> {
 
 /// A first move that has been shown.
 #[derive(Clone, Copy)]
-pub struct First<R: Rules> {
+pub struct First {
     /// The place after the move.
-    pub firsts: Firsts<R>,
+    pub firsts: Firsts,
     pub by: Move,
     pub undo: Undo,
     /// The length of White's threats: the least number of half-moves within which they win. `None` if White
@@ -90,30 +89,27 @@ pub struct First<R: Rules> {
 
 /// A reply that has been played.
 #[derive(Clone, Copy)]
-pub struct Played<R: Rules> {
+pub struct Played {
     /// The place after the reply in the order of moves.
-    pub place: Moves<R>,
+    pub place: MovePlace,
     pub by: Move,
     pub undo: Undo,
 }
 
 /// What a search for tries returns of a problem.
 #[derive(Drop)]
-pub enum Course<R: Rules> {
+pub enum Course {
     /// The only event of help play.
     NoTries,
     /// The events of a battle from a stage on.
-    InBattle {
-        battle: Battle,
-        stage: TriesStage<R>,
-    },
+    InBattle { battle: Battle, stage: TriesStage },
     /// Nothing more of help play.
     Ended,
 }
 
 /// What a search for tries returns next of a battle.
-#[derive_where(Clone, Copy)]
-pub enum TriesStage<R: Rules> {
+#[derive(Clone, Copy)]
+pub enum TriesStage {
     /// The beginning of set play.
     SetPlay,
     /// That set play isn't possible.
@@ -130,39 +126,39 @@ pub enum TriesStage<R: Rules> {
     },
     /// The next first move of a group.
     FirstMove {
-        firsts: Firsts<R>,
+        firsts: Firsts,
     },
     /// What Black faces after a first move.
     Faced {
-        first: First<R>,
+        first: First,
     },
     /// The threats, in the position after Black has passed; `crossed` is the en passant square before.
     Threats {
-        first: First<R>,
+        first: First,
         crossed: Option<Square>,
     },
     /// The next reply after a place.
     Reply {
-        first: First<R>,
-        place: Moves<R>,
+        first: First,
+        place: MovePlace,
     },
     /// What stands below a reply.
     BelowReply {
-        first: First<R>,
-        reply: Played<R>,
+        first: First,
+        reply: Played,
     },
     /// The refutations of a try.
     But {
-        first: First<R>,
+        first: First,
     },
     /// The next refutation after a place.
     Refutation {
-        first: First<R>,
-        place: Moves<R>,
+        first: First,
+        place: MovePlace,
     },
     /// That the first move stalemates, which refutes it.
     Stalemate {
-        first: First<R>,
+        first: First,
     },
     /// Nothing.
     Over,
@@ -170,9 +166,9 @@ pub enum TriesStage<R: Rules> {
 
 /// What a step of a search for tries leaves.
 #[derive(Drop)]
-pub struct Step<R: Rules> {
+pub struct Step {
     /// What the search does next.
-    pub stage: TriesStage<R>,
+    pub stage: TriesStage,
     /// The event that the step emits, if there is one.
     pub event: Option<TryEvent>,
 }

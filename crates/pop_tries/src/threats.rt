@@ -20,14 +20,12 @@ use crate::contest::Contest;
 use crate::desk::Desk;
 use crate::few_places::FewPlaces;
 use crate::move_set::MoveSet;
-use chess_core::board::Board;
-use chess_core::man::Move;
-use chess_core::square::Square;
+use chess_core::{Board, Move, Square};
 use chess_mates::mate_cursor;
-use chess_rules::{Moves, Rules, in_check, play, unplay};
+use chess_rules::{MovePlace, Rules, in_check, play, unplay};
 use pop_battle::chess::{is_for_mate, next_move, reaches_goal, turn_over};
 use pop_battle::value::value_of;
-use pop_walk::plan::Plan;
+use pop_walk::mode::Mode;
 use pop_walk::walk::walk_length;
 
 /// White's threats after a first move.
@@ -120,7 +118,7 @@ pub fn threat_length<R: Rules, const N: usize>(
     if !has_threat::<R, N>(contest, desk) {
         return None;
     }
-    let plan = Plan {
+    let mode = Mode {
         battle: Some(contest.battle),
         goal: contest.stipulation.goal,
         variation: false,
@@ -128,7 +126,7 @@ pub fn threat_length<R: Rules, const N: usize>(
     let left = contest.stipulation.half_moves().saturating_sub(2);
     let crossed = pass(&mut desk.board);
     let length = walk_length::<R, N>(
-        plan,
+        mode,
         left,
         &mut desk.board,
         &mut desk.frames,
@@ -223,11 +221,11 @@ fn tested_moves<R: Rules, const N: usize>(
         (moves R.rule desk.old.board)) [] }
     ensures rest { Keeps desk.old desk.new }
 {
-    let mut known = None;
-    let mut place = Moves::<R>::start();
+    let mut cursor = None;
+    let mut place = MovePlace::start();
     let mut moves = MoveSet::none();
     let mut places = FewPlaces::Empty;
-    while let Some(by) = next_move::<R>(&mut known, &mut place, &mut desk.board) {
+    while let Some(by) = next_move::<R>(&mut cursor, &mut place, &mut desk.board) {
         if wins_by::<R, N>(contest, length, by, desk) {
             moves = moves.with(by);
             places = places.with(place.number());
@@ -266,7 +264,7 @@ pub fn find_threat<R: Rules, const N: usize>(
 fn works<R: Rules, const N: usize>(
     contest: Contest,
     length: usize,
-    place: Moves<R>,
+    place: MovePlace,
     desk: &mut Desk<R, N>,
 ) -> bool
     requires length { IsLength contest length }
@@ -277,7 +275,7 @@ fn works<R: Rules, const N: usize>(
         (chess_passing R.rule) (moves_of length) desk.old.board (triple_at (place - 1)) }
     ensures rest { Keeps desk.old desk.new }
 {
-    match place.legal_move(&mut desk.board) {
+    match place.legal_move::<R>(&mut desk.board) {
         Some(by) => wins_by::<R, N>(contest, length, by, desk),
         None => false,
     }
@@ -326,10 +324,10 @@ fn all_work<R: Rules, const N: usize>(
     let length = threat.length;
     match threat.places {
         FewPlaces::Empty | FewPlaces::Many => true,
-        FewPlaces::One { place } => { works::<R, N>(contest, length, Moves::at(place), desk) }
+        FewPlaces::One { place } => { works::<R, N>(contest, length, MovePlace::at(place), desk) }
         FewPlaces::Two { first, second } => {
-            works::<R, N>(contest, length, Moves::at(first), desk)
-                && works::<R, N>(contest, length, Moves::at(second), desk)
+            works::<R, N>(contest, length, MovePlace::at(first), desk)
+                && works::<R, N>(contest, length, MovePlace::at(second), desk)
         }
     }
 }
@@ -373,13 +371,13 @@ pub fn is_defence<R: Rules, const N: usize>(
         contest.stipulation.n (chess_passing R.rule) desk.old.board by }
     ensures rest { Keeps desk.old desk.new }
 {
-    let Some(known) = threat else {
+    let Some(threats) = threat else {
         return true;
     };
-    if known.places.are_few() {
-        return stops_few::<R, N>(contest, known, by, desk);
+    if threats.places.are_few() {
+        return stops_few::<R, N>(contest, threats, by, desk);
     }
-    stops_one::<R, N>(contest, known, by, desk)
+    stops_one::<R, N>(contest, threats, by, desk)
 }
 
 /// Returns whether the legal reply `by` to the first move that led to the board's position is a defence.
@@ -399,10 +397,10 @@ fn stops_one<R: Rules, const N: usize>(
         contest.stipulation.n (chess_passing R.rule) desk.old.board by }
     ensures rest { Keeps desk.old desk.new }
 {
-    let mut known = None;
-    let mut place = Moves::<R>::start();
+    let mut cursor = None;
+    let mut place = MovePlace::start();
     let mut crossed = pass(&mut desk.board);
-    while let Some(tried) = next_move::<R>(&mut known, &mut place, &mut desk.board) {
+    while let Some(tried) = next_move::<R>(&mut cursor, &mut place, &mut desk.board) {
         if is_threat::<R, N>(contest, threat, tried, desk) {
             unpass(&mut desk.board, crossed);
             let undo = play::<R>(&mut desk.board, by);

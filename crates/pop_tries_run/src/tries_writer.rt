@@ -111,7 +111,6 @@ fn start_search<R: Rules>(problem: &Problem, most: u32) -> TriesSearch<R, MOST_F
     ensures problem { result.problem ≡ problem.now }
     ensures left { result.left ≡ try_events R.rule problem.now most }
 {
-    // For the prover alone: the call shows that the stipulation has at most `MOST_HALF_MOVES`.
-    let _aim = problem.stipulation();
+    problem.show_sound();
     TriesSearch::new(problem, most)
 }

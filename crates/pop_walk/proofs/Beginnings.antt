@@ -1,6 +1,6 @@
 -- How the search of a phase after a beginning of moves begins.
 unfoldable use Rattle.pop_walk.specs.ties.Walk.{AreEnds}
-use Rattle.pop_walk.proofs.Words.{AreKnown, Bool, Frame, Game, HoldsAtStage, First, IsLinked, IsRoomy, IsWalking, List, Move, Part, Phase, Plan, Posed, Position, RuleSet, Stage, Within, [], after_well_formed, ap, append-nil, arith, eqb, events_along, false, false≢true, game_of, inl, inr, is_emitted, is_followed, is_for_mate, is_help, is_legal, is_mate, may_be_made, left_of, legal_moves, length, map, nat_tests, opened_frame, path, phase_half_moves, phase_paths, phase_start, plan_of, position, position_after, refl, reverse, rules, seeks_last, shown_paths, sym, to_come, to_open, true, undo_of, walk_count, walk_length, walk_of, ℕ, ◌++◌, ◌+◌, ◌-◌, ◌<◌, ◌∙◌, ◌∷◌, ◌≡◌, ◌≤◌, met_after}
+use Rattle.pop_walk.proofs.Words.{AreCursors, Bool, Frame, Game, HoldsAtStage, First, IsLinked, IsRoomy, IsWalking, List, Move, Part, Phase, Mode, Posed, Position, RuleSet, Stage, Within, [], after_well_formed, ap, append-nil, arith, eqb, events_along, false, false≢true, game_of, inl, inr, is_emitted, is_followed, is_for_mate, is_help, is_legal, is_mate, may_be_made, left_of, legal_moves, length, map, nat_tests, opened_frame, path, phase_half_moves, phase_paths, phase_start, mode_of, position, position_after, refl, reverse, rules, seeks_last, shown_paths, sym, to_come, to_open, true, undo_of, walk_count, walk_length, walk_of, ℕ, ◌++◌, ◌+◌, ◌-◌, ◌<◌, ◌∙◌, ◌∷◌, ◌≡◌, ◌≤◌, met_after}
 use Rattle.pop_battle.proofs.Boards.{after_start, for_mate}
 use Rattle.pop_walk.proofs.GoingOn.{cases, ended-reached, follows-help, walk_length-help, walk_length-most}
 use Rattle.pop_walk.proofs.Counting.{at_most_one, counts-help, open-close, walk_count-start}
@@ -17,11 +17,11 @@ idle-parts : (f : Frame) (below : List Frame) → are_idle (f ∷ below) ≡ tru
 unfolding are_idle
 idle-parts f below e = grind (arith, nat_tests)
 
-module _ (rule : RuleSet) (plan : Plan) (p : Position) where
-  idle-come : (h : ℕ) (frames : List Frame) → are_idle frames ≡ true → to_come rule plan h p frames ≡ []
+module _ (rule : RuleSet) (mode : Mode) (p : Position) where
+  idle-come : (h : ℕ) (frames : List Frame) → are_idle frames ≡ true → to_come rule mode h p frames ≡ []
   unfolding to_come
   idle-come h [] e = refl
-  idle-come h (f ∷ below) e = let i = idle-parts f below e in come-close rule plan h p f below (inl i.0) ∙ idle-come h below i.1
+  idle-come h (f ∷ below) e = let i = idle-parts f below e in come-close rule mode h p f below (inl i.0) ∙ idle-come h below i.1
 
   idle-open : (frames : List Frame) → are_idle frames ≡ true → to_open rule p frames ≡ 0
   unfolding to_open
@@ -32,7 +32,7 @@ module _ (rule : RuleSet) (plan : Plan) (p : Position) where
 walking-opened : (rule : RuleSet) (h : ℕ) (p : Position) (frames : List Frame) (board : Position) (m : Move) (tried : ℕ) → 0 < length frames
     → IsWalking rule h p frames board → is_legal rule board m ≡ true → tried + length frames ≤ h
     → IsWalking rule h p (opened_frame m (undo_of rule board m) tried ∷ frames) (position_after rule board m)
-unfolding IsLinked IsRoomy AreKnown AreEnds position
+unfolding IsLinked IsRoomy AreCursors AreEnds position
 walking-opened rule h p frames board m tried some r lawful room =
     grind (arith, after_well_formed rule board m r.sound (may_be_made rule board m lawful), may_be_made rule board m lawful)
 
@@ -63,8 +63,8 @@ module _ (rule : RuleSet) (problem : Posed) (phase : Phase) (n : ℕ) (frames : 
   abbrev p : Position
   p = phase_start problem phase
 
-  abbrev plan : Plan
-  plan = plan_of problem
+  abbrev mode : Mode
+  mode = mode_of problem
 
   abbrev game : Game Position Move
   game = game_of rule problem
@@ -102,18 +102,18 @@ module _ (rule : RuleSet) (problem : Posed) (phase : Phase) (n : ℕ) (frames : 
   unfolding HoldsAtStage left_of
   begun-none opened none o = record {
     standing = (s.walking, omega arith, refl);
-    left = rw (idle-come rule plan p h old s.idle, none) refl;
-    counts = λ help. counts-on false old opened help (omega (arith, o help, idle-open rule plan p old s.idle));
+    left = rw (idle-come rule mode p h old s.idle, none) refl;
+    counts = λ help. counts-on false old opened help (omega (arith, o help, idle-open rule mode p old s.idle));
   }
 
   -- the last move doesn't mate where each path ends with it
-  come-fails : is_for_mate problem.stipulation.goal ≡ true → seeks_last plan.battle ≡ true → left ≡ 0 → is_mate rule q ≡ false → come ≡ []
+  come-fails : is_for_mate problem.stipulation.goal ≡ true → seeks_last mode.battle ≡ true → left ≡ 0 → is_mate rule q ≡ false → come ≡ []
   unfolding shown_paths position met_after
   come-fails for last none misses =
-      rw none (ap (map (λ line. path old ++ line)) (skipped rule plan board root 1 last (for_mate _ for) m [] misses))
+      rw none (ap (map (λ line. path old ++ line)) (skipped rule mode board root 1 last (for_mate _ for) m [] misses))
 
   -- a beginning whose last move doesn't mate where it has to has no path
-  pub begun-fails : (opened : ℕ) (after : Position) → opened ≡ 0 → after ≡ board → is_for_mate problem.stipulation.goal ≡ true → seeks_last plan.battle ≡ true
+  pub begun-fails : (opened : ℕ) (after : Position) → opened ≡ 0 → after ≡ board → is_for_mate problem.stipulation.goal ≡ true → seeks_last mode.battle ≡ true
       → left ≡ 0 → is_mate rule q ≡ false → Begun false old after opened
   unfolding walk_count
   begun-fails opened after z stays for last none misses =
@@ -121,39 +121,39 @@ module _ (rule : RuleSet) (problem : Posed) (phase : Phase) (n : ℕ) (frames : 
       rw stays (begun-none opened come (λ help. search rules))
 
   -- the move is not followed
-  begun-off : (opened : ℕ) → is_followed plan.battle game root left q ≡ false → Begun false old board opened
+  begun-off : (opened : ℕ) → is_followed mode.battle game root left q ≡ false → Begun false old board opened
   unfolding shown_paths
   begun-off opened off = begun-none opened (rw off refl) (λ help.
-      absurd (false≢true (sym off ∙ follows-help plan game root left q (no-battle problem.stipulation.form help))))
+      absurd (false≢true (sym off ∙ follows-help mode game root left q (no-battle problem.stipulation.form help))))
 
   -- the move is followed
   abbrev entered : List Frame
-  entered = opened_frame m (undo_of rule board m) (walk_length plan.battle plan.variation game left q) ∷ old
+  entered = opened_frame m (undo_of rule board m) (walk_length mode.battle mode.variation game left q) ∷ old
 
-  come-entered : is_followed plan.battle game root left q ≡ true
-      → come ≡ given_path (is_emitted plan.battle game left q) (path old ++ m ∷ []) ++ to_come rule plan h p entered
+  come-entered : is_followed mode.battle game root left q ≡ true
+      → come ≡ given_path (is_emitted mode.battle game left q) (path old ++ m ∷ []) ++ to_come rule mode h p entered
   unfolding shown_paths to_come
   come-entered followed =
       let more : eqb (length old) 0 ≡ false = grind (arith, nat_tests, deep) in
-      let idle = idle-come rule plan p h old s.idle in
+      let idle = idle-come rule mode p h old s.idle in
       rw (followed, more, s.long, idle, path-more _ old deep, position-more rule p _ old deep, ← s.walking.board_at, after_start rule q)
       (sym (append-nil _) ∙ turn _ (path old) m _ [] [])
 
   walking-entered : IsWalking rule h p entered q
   walking-entered = walking-opened rule h p old board m _ deep s.walking lawful
-      (omega (arith, walk_length-most game plan.battle plan.variation left q, s.long, s.within))
+      (omega (arith, walk_length-most game mode.battle mode.variation left q, s.long, s.within))
 
-  opens-entered : (opened : ℕ) → CountsMove rule plan root left q 0 opened → is_help problem.stipulation.form ≡ true
+  opens-entered : (opened : ℕ) → CountsMove rule mode root left q 0 opened → is_help problem.stipulation.form ≡ true
       → opened + to_open rule p entered ≡ tried
   unfolding to_open
   opens-entered opened c help =
       let helps = no-battle problem.stipulation.form help in
-      let idle = idle-open rule plan p old s.idle in
-      rw (walk_length-help plan game left q helps, idle, position-more rule p _ old deep, ← s.walking.board_at)
-      (let one = counts-help rule plan root left q 0 opened helps c in omega (arith, walk_count-start rule left q, at_most_one (eqb left 0), one.0, one.1))
+      let idle = idle-open rule mode p old s.idle in
+      rw (walk_length-help mode game left q helps, idle, position-more rule p _ old deep, ← s.walking.board_at)
+      (let one = counts-help rule mode root left q 0 opened helps c in omega (arith, walk_count-start rule left q, at_most_one (eqb left 0), one.0, one.1))
 
-  begun-entered : (opened : ℕ) (given : Bool) → given ≡ is_emitted plan.battle game left q → is_followed plan.battle game root left q ≡ true
-      → CountsMove rule plan root left q 0 opened → Begun given entered q opened
+  begun-entered : (opened : ℕ) (given : Bool) → given ≡ is_emitted mode.battle game left q → is_followed mode.battle game root left q ≡ true
+      → CountsMove rule mode root left q 0 opened → Begun given entered q opened
   unfolding HoldsAtStage left_of
   begun-entered opened true g followed c =
       let e : path entered ∷ phase_paths rule problem phase entered ≡ come =
@@ -163,7 +163,7 @@ module _ (rule : RuleSet) (problem : Posed) (phase : Phase) (n : ℕ) (frames : 
           walking-entered,
           refl,
           omega (arith, deep),
-          ended-reached game plan.battle plan.variation root left q followed (sym g),
+          ended-reached game mode.battle mode.variation root left q followed (sym g),
         );
         left = ap (λ paths. events_along problem phase 0 paths []) e;
         counts = λ help. counts-on true entered opened help (opens-entered opened c help);
@@ -178,12 +178,12 @@ module _ (rule : RuleSet) (problem : Posed) (phase : Phase) (n : ℕ) (frames : 
 
   -- what `enter` leaves
   pub begun-by : (opened opened2 : ℕ) (low given : Bool) (last : List Frame) (after : Position) → opened ≡ 0
-      → (is_followed plan.battle game low left q ≡ false → (given ≡ false) × (after ≡ board) × (last ≡ frames))
-      → (is_followed plan.battle game low left q ≡ true → (given ≡ is_emitted plan.battle game left q) × (after ≡ q)
-      × (last ≡ frames ++ opened_frame m (undo_of rule board m) (walk_length plan.battle plan.variation game left q) ∷ []))
-      → CountsMove rule plan low left q opened opened2 → low ≡ root → Begun given (reverse last) after opened2
+      → (is_followed mode.battle game low left q ≡ false → (given ≡ false) × (after ≡ board) × (last ≡ frames))
+      → (is_followed mode.battle game low left q ≡ true → (given ≡ is_emitted mode.battle game left q) × (after ≡ q)
+      × (last ≡ frames ++ opened_frame m (undo_of rule board m) (walk_length mode.battle mode.variation game left q) ∷ []))
+      → CountsMove rule mode low left q opened opened2 → low ≡ root → Begun given (reverse last) after opened2
   begun-by opened opened2 low given last after z unfollowed enters counts lowest =
-      elim (cases (is_followed plan.battle game low left q)) [
+      elim (cases (is_followed mode.battle game low left q)) [
         | inl off ↦ let x = unfollowed off in rw (x.0, x.1, ap reverse x.2) (begun-off opened2 (rw lowest at off))
         | inr followed ↦
             let x = enters followed in

@@ -1,12 +1,8 @@
 -- How many positions a move and some steps of a walk count.
-use Rattle.pop_walk.proofs.Words.{Battle, Bool, Frame, HasCounted, List, Mate, Move, None, Plan, Position, RuleSet, Some, [], arith, chess, cond, eqb, false, is_followed, is_mating, legal_moves, moves_after, position, position_after, rules, seeks_last, smallest_tree, sum_by-cons, to_open, true, value, walk_after, walk_count, ℕ, ◌&&◌, ◌+◌, ◌∷◌, ◌≡◌, ◌≤◌, ◌⊎◌}
+use Rattle.pop_walk.proofs.Words.{Battle, Bool, Frame, HasCounted, List, Mate, Move, None, Mode, Position, RuleSet, Some, [], arith, chess, cond, eqb, false, is_followed, is_mating, legal_moves, moves_after, position, position_after, rules, seeks_last, smallest_tree, sum_by-cons, to_open, true, value, walk_after, walk_count, ℕ, ◌&&◌, ◌+◌, ◌∷◌, ◌≡◌, ◌≤◌, ◌⊎◌}
 use Rattle.pop_walk.specs.ties.Counts.{Counts, CountsMove, Untried, are_whites, fewest_left, fewest_walked, is_walked_once_by, least_if, untried}
 use Rattle.pop_battle.proofs.Boards.{after_start, none_of}
 use Rattle.pop_walk.proofs.GoingOn.{no_zero, ways}
-
--- two calls, one after the other
-pub counts_then : (a b c : Untried) (x y z : ℕ) → Counts a b x y → Counts b c y z → Counts a c x z
-counts_then a b c x y z first second = search rules
 
 -- what counts all that has to be tried counts what has to be tried if `full`
 pub counts-if : (full : Bool) (a b : Untried) (x y : ℕ) → Counts a b x y → Counts (least_if full a) b x y
@@ -33,19 +29,19 @@ counts_then-both true a b c x y z first second = counts_then-if true true a b c 
 counts_then-both false a b c x y z first second = counts_then-if false false a b c x y z first second
 
 -- what some steps of a walk count that skips nothing that has to be tried
-abbrev pub CountsAll : RuleSet → Plan → ℕ → Position → (old new : List Frame) → (before after : ℕ) → Type 0
-CountsAll rule plan h p old new before after = Counts (untried rule plan h p old) (untried rule plan h p new) before after
+abbrev pub CountsAll : RuleSet → Mode → ℕ → Position → (old new : List Frame) → (before after : ℕ) → Type 0
+CountsAll rule mode h p old new before after = Counts (untried rule mode h p old) (untried rule mode h p new) before after
 
 -- what is counted, by the ways to play
-pub counts-by : (rule : RuleSet) (plan : Plan) (h : ℕ) (p : Position) (old new : List Frame) (before after : ℕ) → HasCounted before after 0
-    → (plan.battle ≡ None → (after + to_open rule p new ≤ before + to_open rule p old)
+pub counts-by : (rule : RuleSet) (mode : Mode) (h : ℕ) (p : Position) (old new : List Frame) (before after : ℕ) → HasCounted before after 0
+    → (mode.battle ≡ None → (after + to_open rule p new ≤ before + to_open rule p old)
     × HasCounted before (after + to_open rule p new) (to_open rule p old))
-    → ((battle : Battle) → plan.battle ≡ Some battle → HasCounted before (after + fewest_left rule plan h p new) (fewest_left rule plan h p old))
-    → ((battle : Battle) → plan.battle ≡ Some battle → plan.variation ≡ false → are_whites battle old ≡ true
+    → ((battle : Battle) → mode.battle ≡ Some battle → HasCounted before (after + fewest_left rule mode h p new) (fewest_left rule mode h p old))
+    → ((battle : Battle) → mode.battle ≡ Some battle → mode.variation ≡ false → are_whites battle old ≡ true
     → (are_whites battle new ≡ true) × (after + to_open rule p new ≤ before + to_open rule p old))
-    → CountsAll rule plan h p old new before after
+    → CountsAll rule mode h p old new before after
 unfolding untried is_walked_once_by
-counts-by rule plan h p old new before after grows help fewest keys = search (rules, ways)
+counts-by rule mode h p old new before after grows help fewest keys = search (rules, ways)
 
 -- a position counts one where moves are tried from it, and what these open
 pub walk_count-start : (rule : RuleSet) (k : ℕ) (q : Position)
@@ -58,9 +54,9 @@ at_most_one true = omega arith
 at_most_one false = omega arith
 
 -- in help play a move counts one if moves are tried after it
-pub counts-help : (rule : RuleSet) (plan : Plan) (root : Bool) (t : ℕ) (q : Position) (before after : ℕ) → plan.battle ≡ None
-    → CountsMove rule plan root t q before after → (after ≤ before + cond (eqb t 0) 0 1) × HasCounted before after (cond (eqb t 0) 0 1)
-counts-help rule plan root t q before after help x = (x.help help, rw help at x.tries)
+pub counts-help : (rule : RuleSet) (mode : Mode) (root : Bool) (t : ℕ) (q : Position) (before after : ℕ) → mode.battle ≡ None
+    → CountsMove rule mode root t q before after → (after ≤ before + cond (eqb t 0) 0 1) × HasCounted before after (cond (eqb t 0) 0 1)
+counts-help rule mode root t q before after help x = (x.help help, rw help at x.tries)
 
 -- a frame without moves opens nothing
 pub open-close : (rule : RuleSet) (p : Position) (f : Frame) (below : List Frame) → (f.left ≡ 0) ⊎ (moves_after rule (position rule p (f ∷ below)) f.place ≡ [])
@@ -69,11 +65,11 @@ unfolding to_open walk_after
 open-close rule p f below e = search rules
 
 -- a last move that doesn't mate counts nothing, where the side seeks mate
-pub fewest-skipped : (rule : RuleSet) (plan : Plan) (P : Position) (low : Bool) (fuel : ℕ) → seeks_last plan.battle ≡ true → plan.goal ≡ Mate
-    → (battle : Battle) → plan.battle ≡ Some battle → (m : Move) (ms : List Move) → is_mating rule P m ≡ false
-    → fewest_walked plan (chess plan.goal rule) low fuel 1 P (m ∷ ms) ≡ fewest_walked plan (chess plan.goal rule) low fuel 1 P ms
+pub fewest-skipped : (rule : RuleSet) (mode : Mode) (P : Position) (low : Bool) (fuel : ℕ) → seeks_last mode.battle ≡ true → mode.goal ≡ Mate
+    → (battle : Battle) → mode.battle ≡ Some battle → (m : Move) (ms : List Move) → is_mating rule P m ≡ false
+    → fewest_walked mode (chess mode.goal rule) low fuel 1 P (m ∷ ms) ≡ fewest_walked mode (chess mode.goal rule) low fuel 1 P ms
 unfolding fewest_walked smallest_tree is_followed value
-fewest-skipped rule plan P low fuel last for battle fought m ms misses = search (rules, sum_by-cons)
+fewest-skipped rule mode P low fuel last for battle fought m ms misses = search (rules, sum_by-cons)
 
 -- the last half-move opens nothing
 pub last-open : (rule : RuleSet) (P : Position) (k place : ℕ) → k ≡ 1 → walk_after rule k P place ≡ 0

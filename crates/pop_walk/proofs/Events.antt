@@ -1,5 +1,5 @@
 -- What a call of `next` returns.
-use Rattle.pop_walk.proofs.Words.{After, Before, Frame, Stage, Total, goes_on, is_none, sym, IsRoomy, IsSound, List, Phase, Play, Posed, Position, RuleSet, Walks, Within, [], append_assoc, arith, cond, drop, eqb, events_from, false, flat_map, half_moves, is_impossible_phase, BareEvent, Event, First, Gives, IsAtPathOf, IsWalking, Move, Whole, begins_solution, event_of, events_after, events_along, path, path_event, phase_count, Walk, walk_of, Bool, ap, ◌<◌, ◌∙◌, beginning_count, is_help, kept_paths, left_of, length, length-reverse, nat_tests, opening, phase_events, phase_half_moves, phase_paths, phase_start, plan_of, refl, reverse, rules, solutions, take, total, true, ℕ, ◌+◌, ◌-◌, ◌||◌, ◌∷◌, ◌≡◌, ◌≤◌, drop-drop}
+use Rattle.pop_walk.proofs.Words.{After, Before, Frame, Stage, Total, goes_on, is_none, sym, IsRoomy, IsSound, List, Phase, Play, Posed, Position, RuleSet, Walks, Within, [], append_assoc, arith, cond, drop, eqb, events_from, false, flat_map, half_moves, is_impossible_phase, BareEvent, Event, First, Gives, IsAtPathOf, IsWalking, Move, Whole, begins_solution, event_of, events_after, events_along, path, path_event, phase_count, Walk, walk_of, Bool, ap, ◌<◌, ◌∙◌, beginning_count, is_help, kept_paths, left_of, length, length-reverse, nat_tests, opening, phase_events, phase_half_moves, phase_paths, phase_start, mode_of, refl, reverse, rules, solutions, take, total, true, ℕ, ◌+◌, ◌-◌, ◌||◌, ◌∷◌, ◌≡◌, ◌≤◌, drop-drop}
 use Rattle.pop_stipulation.specs.declared.stipulation.TheConstants.{MOST_FRAMES}
 use Rattle.pop_walk.proofs.Sound.{in_range}
 use Rattle.pop_walk.proofs.Kept.{beginning_count-next, keep-next}
@@ -13,27 +13,23 @@ room-length h (f ∷ below) s = omega (arith, s.0)
 
 -- what a phase's walk is by
 module _ (problem : Posed) (walk : Walk) (is : walk ≡ walk_of problem walk.phase walk.scope) where
-  -- the plan of the problem
-  pub plan-is : walk.plan ≡ plan_of problem
-  plan-is = ap (λ (w : Walk). w.plan) is
+  -- the mode of the problem
+  pub mode-is : walk.mode ≡ mode_of problem
+  mode-is = ap (λ (w : Walk). w.mode) is
 
   -- the half-moves of the phase
   pub half_moves-are : walk.half_moves ≡ phase_half_moves problem walk.phase
   half_moves-are = ap (λ (w : Walk). w.half_moves) is
 
-  -- a phase has at most the half-moves of the play
-  pub half_moves-fit : (n : ℕ) → half_moves problem.stipulation < n → walk.half_moves < n
-  half_moves-fit n lt = grind arith
-
   -- what walking on leaves
   pub walks-are : (rule : RuleSet) (p : Position) (limit : ℕ) (old new : List Frame) (board : Position) (given : Bool)
-      → Walks rule walk.plan (is_none walk.plan.battle) walk.half_moves p limit old new board given
-      → Walks rule (plan_of problem) (is_help problem.stipulation.form) (phase_half_moves problem walk.phase) p limit old new board given
-  walks-are rule p limit old new board given w = search (rules, plan-is, half_moves-are)
+      → Walks rule walk.mode (is_none walk.mode.battle) walk.half_moves p limit old new board given
+      → Walks rule (mode_of problem) (is_help problem.stipulation.form) (phase_half_moves problem walk.phase) p limit old new board given
+  walks-are rule p limit old new board given w = search (rules, mode-is, half_moves-are)
 
 -- none is given: the total is left
 pub left-ended : (rule : RuleSet) (problem : Posed) (walk : Walk) (count : ℕ) (old new : List Frame) (board : Position)
-    → Walks rule (plan_of problem) (is_help problem.stipulation.form) (phase_half_moves problem walk.phase) (phase_start problem walk.phase)
+    → Walks rule (mode_of problem) (is_help problem.stipulation.form) (phase_half_moves problem walk.phase) (phase_start problem walk.phase)
     (problem.max_solutions - count) old new board false
     → left_of rule problem (Within walk count) old ≡ total count (eqb count problem.max_solutions) ∷ events_after rule problem walk
 unfolding left_of
@@ -48,7 +44,7 @@ after-is rule problem false stage frames e = rw e refl
 
 -- the total is given
 pub ended-gives : (rule : RuleSet) (problem : Posed) (walk : Walk) (count : ℕ) (old mid : List Frame) (at : Position)
-    → Walks rule (plan_of problem) (is_help problem.stipulation.form) (phase_half_moves problem walk.phase) (phase_start problem walk.phase)
+    → Walks rule (mode_of problem) (is_help problem.stipulation.form) (phase_half_moves problem walk.phase) (phase_start problem walk.phase)
     (problem.max_solutions - count) old mid at false → (stage : Stage) → stage ≡ cond (goes_on walk) (Before Play) After
     → (new : List Frame) (event : Event) → event ≡ Total count (eqb count problem.max_solutions) → (board : Position) (depth : ℕ)
     → Gives rule problem (left_of rule problem (Within walk count) old) (left_of rule problem stage new) event board depth
@@ -62,7 +58,7 @@ ended-gives rule problem walk count old mid at w stage next new event e board de
 
 module _ (rule : RuleSet) (problem : Posed) (walk : Walk) (count : ℕ) (old : List Frame) (frames : List Frame) (board : Position)
     (most : count ≤ problem.max_solutions)
-    (w : Walks rule (plan_of problem) (is_help problem.stipulation.form) (phase_half_moves problem walk.phase) (phase_start problem walk.phase)
+    (w : Walks rule (mode_of problem) (is_help problem.stipulation.form) (phase_half_moves problem walk.phase) (phase_start problem walk.phase)
     (problem.max_solutions - count) old
     (reverse frames) board true) where
   -- a path that is given has a move
@@ -135,7 +131,7 @@ module _ (rule : RuleSet) (problem : Posed) (walk : Walk) (frames : List Frame) 
 
   -- a path that the walk finds is given next
   pub found-gives : (count : ℕ) (old : List Frame)
-      → Walks rule (plan_of problem) help (phase_half_moves problem walk.phase) (phase_start problem walk.phase) (problem.max_solutions - count) old
+      → Walks rule (mode_of problem) help (phase_half_moves problem walk.phase) (phase_start problem walk.phase) (problem.max_solutions - count) old
       (reverse frames) board true → (next : ℕ) → next ≡ count + more → (event : Event) → event ≡ event_of rule problem (path_event problem walk.phase top)
       → (stand : Position) → stand ≡ board
       → Gives rule problem (left_of rule problem (Within walk count) old) (left_of rule problem (Within walk next) (reverse frames)) event stand

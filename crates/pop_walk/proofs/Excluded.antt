@@ -1,7 +1,7 @@
 -- What the clauses of a search exclude: events emitted after the board was taken back, or twice; totals
 -- that are wrong or come too early; mates that are skipped; and counts of events and frames that begin or
 -- grow otherwise.
-use Rattle.pop_walk.proofs.Words.{ArrayVec, BareEvent, NotPossible, Before, Bool, Event, Frame, Gives, GoesTo, IsCountedUpTo, Line, List, Move, Node, Plan, Posed, Position, RuleSet, Shown, Total, Within, [], allows_mate, ap, arith, eqb, event_of, false, filter, filter-append, first_phase, is_help, is_mating, is_none, is_walked_once, kept_paths, left_of, length, length-append, map, min, moves_after, path_event, phase_paths, rules, total, true, ℕ, ◌++◌, ◌+◌, ◌-◌, ◌^◌, ◌<◌, ◌∷◌, ◌≡◌, ◌⊎◌, Walk}
+use Rattle.pop_walk.proofs.Words.{ArrayVec, BareEvent, NotPossible, Before, Bool, Event, Frame, Gives, GoesTo, IsCountedUpTo, Line, List, Move, Node, Mode, Posed, Position, RuleSet, Shown, Total, Within, [], allows_mate, ap, arith, eqb, event_of, false, filter, filter-append, first_phase, is_help, is_mating, is_none, is_walked_once, kept_paths, left_of, length, length-append, map, min, moves_after, path_event, phase_paths, rules, total, true, ℕ, ◌++◌, ◌+◌, ◌-◌, ◌^◌, ◌<◌, ◌∷◌, ◌≡◌, ◌⊎◌, Walk}
 use Rattle.pop_walk.specs.ties.Counts.{IsOpened, least_if, untried_at}
 use Rattle.pop_stipulation.specs.declared.stipulation.Goal.TheVariants.{Stalemate}
 
@@ -58,29 +58,29 @@ module _ (rule : RuleSet) (problem : Posed) where
   unfolding least_if untried_at
   nothing_is_opened_at_first prunes frames opened once o = omega (arith, o.most (search rules))
 
-module _ (rule : RuleSet) (plan : Plan) (p : Position) (place before after : ℕ) (rest : List Move) where
+module _ (rule : RuleSet) (mode : Mode) (p : Position) (place before after : ℕ) (rest : List Move) where
   -- with one half-move left no mate after the cursor is skipped
-  pub no_mate_is_skipped : GoesTo rule plan 1 p place rest before after
+  pub no_mate_is_skipped : GoesTo rule mode 1 p place rest before after
       → filter (is_mating rule p) (moves_after rule p place) ≡ filter (is_mating rule p) rest
   no_mate_is_skipped t = grind (arith, filter-append)
 
   -- with two no move that some reply mates
-  pub no_move_before_a_mate_is_skipped : GoesTo rule plan 2 p place rest before after
+  pub no_move_before_a_mate_is_skipped : GoesTo rule mode 2 p place rest before after
       → filter (allows_mate rule p) (moves_after rule p place) ≡ filter (allows_mate rule p) rest
   no_move_before_a_mate_is_skipped t = grind (arith, filter-append)
 
   -- with two half-moves left, the moves that are skipped are counted, each once
-  pub skipped_moves_count_once : before < 2 ^ 64 → GoesTo rule plan 2 p place rest before after
+  pub skipped_moves_count_once : before < 2 ^ 64 → GoesTo rule mode 2 p place rest before after
       → after ≡ min (before + (length (moves_after rule p place) - length rest)) (2 ^ 64 - 1)
   skipped_moves_count_once range t = grind (arith, length-append t.over)
 
   -- with more none is skipped, nor before the last half-move of battle play, nor in play for stalemate
-  pub none_is_skipped : (left : ℕ) → (2 < left) ⊎ (((left ≡ 2) × (is_none plan.battle ≡ false)) ⊎ (plan.goal ≡ Stalemate))
-      → GoesTo rule plan left p place rest before after → moves_after rule p place ≡ rest
+  pub none_is_skipped : (left : ℕ) → (2 < left) ⊎ (((left ≡ 2) × (is_none mode.battle ≡ false)) ⊎ (mode.goal ≡ Stalemate))
+      → GoesTo rule mode left p place rest before after → moves_after rule p place ≡ rest
   none_is_skipped left early t = grind arith
 
 -- with one half-move left, the next move, if it mates, is the next solution
-pub first_mate_is_next : (rule : RuleSet) (plan : Plan) (p : Position) (place before after : ℕ) (m n : Move) (more rest : List Move)
-    → moves_after rule p place ≡ m ∷ more → is_mating rule p m ≡ true → is_mating rule p n ≡ true → GoesTo rule plan 1 p place (n ∷ rest) before after → n ≡ m
-first_mate_is_next rule plan p place before after m n more rest here mates too t =
-    grind (arith, no_mate_is_skipped rule plan p place before after (n ∷ rest) t)
+pub first_mate_is_next : (rule : RuleSet) (mode : Mode) (p : Position) (place before after : ℕ) (m n : Move) (more rest : List Move)
+    → moves_after rule p place ≡ m ∷ more → is_mating rule p m ≡ true → is_mating rule p n ≡ true → GoesTo rule mode 1 p place (n ∷ rest) before after → n ≡ m
+first_mate_is_next rule mode p place before after m n more rest here mates too t =
+    grind (arith, no_mate_is_skipped rule mode p place before after (n ∷ rest) t)

@@ -1,5 +1,5 @@
 -- How many half-moves a line goes on after a move, and what is reached at its end.
-use Rattle.pop_walk.proofs.Words.{Battle, Bool, Game, None, Option, Plan, Some, arith, cond, ends_at_goal, eqb, false, fewest_half_moves, least_length_from, is_followed, walk_length, inl, inr, nat_tests, shown_length, refl, rules, attacker_to_move, suc, true, value, zero, ℕ, ◌*◌, ◌+◌, ◌-◌, ◌/◌, ◌||◌, ◌≡◌, ◌≤◌, ◌⊎◌, is_emitted}
+use Rattle.pop_walk.proofs.Words.{Battle, Bool, Game, None, Option, Mode, Some, arith, cond, ends_at_goal, eqb, false, fewest_half_moves, least_length_from, is_followed, walk_length, inl, inr, nat_tests, shown_length, refl, rules, attacker_to_move, suc, true, value, zero, ℕ, ◌*◌, ◌+◌, ◌-◌, ◌/◌, ◌||◌, ◌≡◌, ◌≤◌, ◌⊎◌, is_emitted}
 
 -- a test by its two results
 pub cases : (b : Bool) → (b ≡ false) ⊎ (b ≡ true)
@@ -43,24 +43,24 @@ module _ {P M : Type 0} (game : Game P M) where
   unfolding is_followed is_emitted value walk_length shown_length
   ended-reached battle variation root t q f g e = search (rules, nat_tests, least_length_from-least)
 
-module _ {P M : Type 0} (plan : Plan) (game : Game P M) where
+module _ {P M : Type 0} (mode : Mode) (game : Game P M) where
   -- in a battle each path is given
-  pub given-battle : (battle : Battle) (t : ℕ) (q : P) → plan.battle ≡ Some battle → is_emitted plan.battle game t q ≡ true
+  pub given-battle : (battle : Battle) (t : ℕ) (q : P) → mode.battle ≡ Some battle → is_emitted mode.battle game t q ≡ true
   unfolding is_emitted
   given-battle battle t q fought = rw fought refl
 
   -- in help play the walk follows each move, with the half-moves that are left
-  pub walk_length-help : (t : ℕ) (q : P) → plan.battle ≡ None → walk_length plan.battle plan.variation game t q ≡ t
+  pub walk_length-help : (t : ℕ) (q : P) → mode.battle ≡ None → walk_length mode.battle mode.variation game t q ≡ t
   unfolding walk_length
   walk_length-help t q help = rw help refl
 
   -- in help play the walk follows each move
-  pub follows-help : (root : Bool) (t : ℕ) (q : P) → plan.battle ≡ None → is_followed plan.battle game root t q ≡ true
+  pub follows-help : (root : Bool) (t : ℕ) (q : P) → mode.battle ≡ None → is_followed mode.battle game root t q ≡ true
   unfolding is_followed
   follows-help root t q help = rw help refl
 
   -- where keys alone are shown it doesn't go on below a move of White
-  pub walk_length-keys : (t : ℕ) (q : P) (battle : Battle) → plan.battle ≡ Some battle → plan.variation ≡ false
-      → attacker_to_move battle (t + 1) ≡ true → walk_length plan.battle plan.variation game t q ≡ 0
+  pub walk_length-keys : (t : ℕ) (q : P) (battle : Battle) → mode.battle ≡ Some battle → mode.variation ≡ false
+      → attacker_to_move battle (t + 1) ≡ true → walk_length mode.battle mode.variation game t q ≡ 0
   unfolding walk_length
   walk_length-keys t q battle fought b c = rw (fought, b, c) refl

@@ -1,5 +1,5 @@
 -- How many positions a search counts, from stage to stage.
-use Rattle.pop_walk.proofs.Words.{BareEvent, Bool, NotPossible, Set, Before, ◌++◌, After, Frame, HasCounted, IsCountedUpTo, IsSound, List, Phase, Play, Posed, RuleSet, Stage, First, Whole, Within, goes_on, left_of, refl, phase_events, [], arith, cond, drop, eqb, false, first_phase, is_help, is_walked_once, Walk, walk_of, and_parts, is_impossible_phase, is_stop, is_unstopped, min, not, phase_half_moves, phase_start, phase_walk, plan_of, position, rules, suc, to_open, total, true, zero, ℕ, ◌&&◌, ◌+◌, ◌-◌, ◌<◌, ◌^◌, ◌∷◌, ◌≡◌, ◌≤◌, ◌⊎◌}
+use Rattle.pop_walk.proofs.Words.{BareEvent, Bool, NotPossible, Set, Before, ◌++◌, After, Frame, HasCounted, IsCountedUpTo, IsSound, List, Phase, Play, Posed, RuleSet, Stage, First, Whole, Within, goes_on, left_of, refl, phase_events, [], arith, cond, drop, eqb, false, first_phase, is_help, is_walked_once, Walk, walk_of, and_parts, is_impossible_phase, is_stop, is_unstopped, min, not, phase_half_moves, phase_start, phase_walk, mode_of, position, rules, suc, to_open, total, true, zero, ℕ, ◌&&◌, ◌+◌, ◌-◌, ◌<◌, ◌^◌, ◌∷◌, ◌≡◌, ◌≤◌, ◌⊎◌}
 use Rattle.pop_walk.specs.ties.Counts.{Counts, CountsOn, CountsWalk, IsOpened, are_whites, fewest_left, fewest_tried, is_walked_once_by, least_if, searches_all, none_untried, untried, untried_at, untried_from}
 use Rattle.pop_walk.specs.Walks.{is_never_stopped, whole_walk}
 use Rattle.pop_battle.proofs.Boards.{after_start}
@@ -32,7 +32,7 @@ module _ (rule : RuleSet) (problem : Posed) where
 
   -- within a phase
   module _ (more : Bool) (walk : Walk) (count : ℕ) (old new : List Frame) (before after : ℕ)
-      (x : CountsWalk more rule (plan_of problem) (phase_half_moves problem walk.phase) (phase_start problem walk.phase) old new before after) where
+      (x : CountsWalk more rule (mode_of problem) (phase_half_moves problem walk.phase) (phase_start problem walk.phase) old new before after) where
     -- what a call counts that gives a path
     pub counts-given : (next : ℕ) (full : Bool) (last : List Frame) → last ≡ new
         → CountsIf (more && full) (Within walk count) (Within walk next) old last before after
@@ -61,12 +61,6 @@ module _ (rule : RuleSet) (problem : Posed) where
   none-left (First walk) frames e = absurd (some-event _ _ _ e)
   none-left (Within walk count) frames e = absurd (some-event _ _ _ e)
   none-left After frames e = refl
-
-  -- what a call counts, if no event to come says that the limit stops a phase
-  pub counts-unstopped : (old new : Stage) (frames last : List Frame) (before after : ℕ) → CountsOn false rule problem old new frames last before after
-      → is_unstopped (left_of rule problem old frames) ≡ true → Counts (untried_at rule problem old frames) (untried_at rule problem new last) before after
-  unfolding least_if
-  counts-unstopped old new frames last before after x u = search rules
 
   -- what a count says: at most the walk count, and after the last event all that had to be tried
   module _ (prunes : Bool) (stage : Stage) (frames : List Frame) (opened : ℕ) (o : IsOpened prunes rule problem stage frames opened) where

@@ -1,5 +1,5 @@
 -- Where no line reaches the goal, the walk has no path.
-use Rattle.pop_walk.proofs.Words.{Bool, IfSome, ◌⊎◌, ◌+◌, Contains, Goal, List, inl, inr, Mate, Move, None, Option, Plan, Position, RuleSet, Some, [], arith, chess, eqb, false, false≢true, first_in, from_filter, is_emitted, is_goal_reached, is_legal, later_in, nat_tests, position_after, refl, shown_paths, suc, sym, true, zero, ℕ, ◌<◌, ◌^◌, ◌-◌, ◌∙◌, ◌∷◌, ◌≡◌}
+use Rattle.pop_walk.proofs.Words.{Bool, IfSome, ◌⊎◌, ◌+◌, Contains, Goal, List, inl, inr, Mate, Move, None, Option, Mode, Position, RuleSet, Some, [], arith, chess, eqb, false, false≢true, first_in, from_filter, is_emitted, is_goal_reached, is_legal, later_in, nat_tests, position_after, refl, shown_paths, suc, sym, true, zero, ℕ, ◌<◌, ◌^◌, ◌-◌, ◌∙◌, ◌∷◌, ◌≡◌}
 use Rattle.std.proofs.lemmas.Nat.Bits.{bit_at_ones, bit_at-trailing_zeros, bit_at-zero}
 use Rattle.std.specs.Int.{w64}
 use Rattle.chess_core.specs.Position.{king_square}
@@ -55,53 +55,53 @@ module _ (goal : Goal) (rule : RuleSet) where
     | inr reaches ↦ absurd (false≢true (sym (no-king (king_square q.men q.turn)) ∙ ends [] refl tt (sym (goal-same goal rule q) ∙ reaches)))
   ]
 
-module _ (rule : RuleSet) (plan : Plan) (help : plan.battle ≡ None) where
+module _ (rule : RuleSet) (mode : Mode) (help : mode.battle ≡ None) where
   -- no path is emitted where no line reaches the goal
-  not-emitted : (t : ℕ) (q : Position) → HoldsEnds plan.goal rule t q 0 → is_emitted plan.battle (chess plan.goal rule) t q ≡ false
+  not-emitted : (t : ℕ) (q : Position) → HoldsEnds mode.goal rule t q 0 → is_emitted mode.battle (chess mode.goal rule) t q ≡ false
   unfolding is_emitted
-  not-emitted zero q none = rw help (no-goal plan.goal rule q none)
+  not-emitted zero q none = rw help (no-goal mode.goal rule q none)
   not-emitted (suc t) q none = rw (help, no_zero t) refl
 
   -- legal moves from which no line reaches the goal have no path
   pub paths-none : (root : Bool) (fuel t : ℕ) (q : Position) (ms : List Move) → ((m : Move) → Contains ms m → is_legal rule q m ≡ true)
-      → HoldsEnds plan.goal rule t q 0 → shown_paths plan (chess plan.goal rule) root fuel t q ms ≡ []
+      → HoldsEnds mode.goal rule t q 0 → shown_paths mode (chess mode.goal rule) root fuel t q ms ≡ []
   unfolding shown_paths legal_moves
   paths-none root zero t q ms are none = refl
   paths-none root (suc fuel) zero q ms are none = refl
   paths-none root (suc fuel) (suc t) q [] are none = refl
   paths-none root (suc fuel) (suc t) q (m ∷ ms) are none =
       let r = position_after rule q m in
-      let after = ends-after plan.goal rule t (suc t) 0 q m (omega arith) (are m (first_in m ms)) none in
+      let after = ends-after mode.goal rule t (suc t) 0 q m (omega arith) (are m (first_in m ms)) none in
       let below = paths-none false fuel t r (legal_moves rule r) (λ n c. (from_filter (is_legal rule r) _ n c).1) after in
       let rest = paths-none root (suc fuel) (suc t) q ms (λ n c. are n (later_in m ms n c)) none in
-      rw (follows-help plan (chess plan.goal rule) root t r help, not-emitted t r after, walk_length-help plan (chess plan.goal rule) t r help, below) rest
+      rw (follows-help mode (chess mode.goal rule) root t r help, not-emitted t r after, walk_length-help mode (chess mode.goal rule) t r help, below) rest
 
   -- no path goes on from a position from which no line reaches the goal
-  pub none-below : (fuel t : ℕ) (q : Position) → HoldsEnds plan.goal rule t q 0
-      → shown_paths plan (chess plan.goal rule) false fuel t q (legal_moves rule q) ≡ []
+  pub none-below : (fuel t : ℕ) (q : Position) → HoldsEnds mode.goal rule t q 0
+      → shown_paths mode (chess mode.goal rule) false fuel t q (legal_moves rule q) ≡ []
   unfolding legal_moves
   none-below fuel t q none = paths-none false fuel t q (legal_moves rule q) (λ n c. (from_filter (is_legal rule q) _ n c).1) none
 
   -- a move to a position out of reach has no path
-  pub first-none : (root : Bool) (fuel t : ℕ) (P : Position) (m : Move) (ms : List Move) → HoldsEnds plan.goal rule t (position_after rule P m) 0
-      → shown_paths plan (chess plan.goal rule) root fuel (suc t) P (m ∷ ms) ≡ shown_paths plan (chess plan.goal rule) root fuel (suc t) P ms
+  pub first-none : (root : Bool) (fuel t : ℕ) (P : Position) (m : Move) (ms : List Move) → HoldsEnds mode.goal rule t (position_after rule P m) 0
+      → shown_paths mode (chess mode.goal rule) root fuel (suc t) P (m ∷ ms) ≡ shown_paths mode (chess mode.goal rule) root fuel (suc t) P ms
   unfolding shown_paths
   first-none root zero t P m ms none = refl
   first-none root (suc fuel) t P m ms none =
       let r = position_after rule P m in
       rw (
-        follows-help plan (chess plan.goal rule) root t r help,
+        follows-help mode (chess mode.goal rule) root t r help,
         not-emitted t r none,
-        walk_length-help plan (chess plan.goal rule) t r help,
+        walk_length-help mode (chess mode.goal rule) t r help,
         none-below fuel t r none,
       ) refl
 
 -- for `line_ends_after`: what is known holds, or nothing is known
-pub known_holds : (rule : RuleSet) (h : ℕ) (p : Position) (known : Option LineEnds) (e : LineEnds) (goal : Goal)
-    → IfSome known (λ e. HoldsEnds e.goal rule h p e.squares) → (known ≡ Some e) ⊎ (e.squares ≡ 2 ^ 64 - 1) → e.goal ≡ goal
+pub line_ends_hold : (rule : RuleSet) (h : ℕ) (p : Position) (line_ends : Option LineEnds) (e : LineEnds) (goal : Goal)
+    → IfSome line_ends (λ e. HoldsEnds e.goal rule h p e.squares) → (line_ends ≡ Some e) ⊎ (e.squares ≡ 2 ^ 64 - 1) → e.goal ≡ goal
     → HoldsEnds goal rule h p e.squares
-known_holds rule h p known e goal holds (inl is) same = rw (← same) (rw is at holds)
-known_holds rule h p known e goal holds (inr all) same = rw all (ends-at-all goal rule h p)
+line_ends_hold rule h p line_ends e goal holds (inl is) same = rw (← same) (rw is at holds)
+line_ends_hold rule h p line_ends e goal holds (inr all) same = rw all (ends-at-all goal rule h p)
 
 -- for `squares_after`
 pub ends_after : (rule : RuleSet) (goal : Goal) (t w : ℕ) (q : Position) (m : Move) → is_legal rule q m ≡ true → HoldsEnds goal rule (t + 1) q w

@@ -1,5 +1,5 @@
 -- The path to the top frame, and how it is shown.
-use Rattle.pop_walk.proofs.Words.{CameFrom, CameFromAt, Frame, Goal, IsEnded, IsLinked, IsWalking, List, Move, Plan, Position, RuleSet, [], ap, arith, chess, cond, drop, ends_at_goal, get_or, is_legal, left_at_top, length, length-append, length-reverse, length-take, path, path_end, position, refl, reverse, reverse-append, rules, moves_shown, last_shown, shown_move, subst, sym, take, take-append-drop, take_all, take_more, true, ℕ, ◌++◌, ◌+◌, ◌-◌, ◌<◌, ◌∙◌, ◌∷◌, ◌≡◌, ◌≤◌, position_after}
+use Rattle.pop_walk.proofs.Words.{CameFrom, CameFromAt, Frame, Goal, IsEnded, IsLinked, IsWalking, List, Move, Mode, Position, RuleSet, [], ap, arith, chess, cond, drop, ends_at_goal, get_or, is_legal, left_at_top, length, length-append, length-reverse, length-take, path, path_end, position, refl, reverse, reverse-append, rules, moves_shown, last_shown, shown_move, subst, sym, take, take-append-drop, take_all, take_more, true, ℕ, ◌++◌, ◌+◌, ◌-◌, ◌<◌, ◌∙◌, ◌∷◌, ◌≡◌, ◌≤◌, position_after}
 use Rattle.pop_walk.proofs.Outcomes.{CameFrom-deep, walking-close}
 use Rattle.pop_battle.specs.declared.chess.Reached.{Reached}
 use Rattle.pop_battle.specs.declared.chess.Reached.TheVariants.{Perhaps, Surely}
@@ -130,10 +130,10 @@ module _ (rule : RuleSet) where
       back-again = forth-again h p board after upper refl r back-walking.board_at
 
       -- the move leads to the goal, where it ends with the goal
-      pub back-ended : (plan : Plan) → IsEnded rule plan (reverse upper) board → (b : Reached)
-          → b ≡ cond (ends_at_goal plan.battle plan.variation f.left) Surely Perhaps → b ≡ Surely
-          → (chess plan.goal rule).goal (position_after rule after f.by) ≡ true
-      back-ended plan ended b e here = search (rules, back-again, stacked)
+      pub back-ended : (mode : Mode) → IsEnded rule mode (reverse upper) board → (b : Reached)
+          → b ≡ cond (ends_at_goal mode.battle mode.variation f.left) Surely Perhaps → b ≡ Surely
+          → (chess mode.goal rule).goal (position_after rule after f.by) ≡ true
+      back-ended mode ended b e here = search (rules, back-again, stacked)
 
       -- the move is shown as the last of the path
       pub back-shown : (goal : Goal) → shown_move goal rule after f.by ≡ last_shown goal rule p (path (reverse upper))

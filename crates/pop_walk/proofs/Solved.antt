@@ -1,5 +1,5 @@
 -- The paths to come from the root frame of a phase are the phase's solutions.
-use Rattle.pop_walk.proofs.Words.{Battle, Bool, Form, Frame, Game, IsSound, List, None, Option, Phase, Plan, Play, Posed, RuleSet, Set, Some, [], battle_of, continuations, ap, arith, beginning_count, best_moves, cond, false, filter, flat_map, game_of, half_moves_of, help_lines, is_help, is_none, kept_paths, keeps_win, length, list_all, map, moves_after, nat_tests, node, nodes_below, phase_half_moves, phase_paths, phase_start, plan_of, refl, rules, attacker_to_move, is_in_set_play, set_tree, shown_paths, solutions, solutions_by, suc, sym, take, true, value, zero, ℕ, ◌++◌, ◌+◌, ◌-◌, ◌∙◌, ◌∷◌, ◌≡◌, legal_moves, list_all-append}
+use Rattle.pop_walk.proofs.Words.{Battle, Bool, Form, Frame, Game, IsSound, List, None, Option, Phase, Mode, Play, Posed, RuleSet, Set, Some, [], battle_of, continuations, ap, arith, beginning_count, best_moves, cond, false, filter, flat_map, game_of, half_moves_of, help_lines, is_help, is_none, kept_paths, keeps_win, length, list_all, map, moves_after, nat_tests, node, nodes_below, phase_half_moves, phase_paths, phase_start, mode_of, refl, rules, attacker_to_move, is_in_set_play, set_tree, shown_paths, solutions, solutions_by, suc, sym, take, true, value, zero, ℕ, ◌++◌, ◌+◌, ◌-◌, ◌∙◌, ◌∷◌, ◌≡◌, legal_moves, list_all-append}
 use Rattle.pop_walk.proofs.Sound.{some_way}
 use Rattle.pop_walk.proofs.Battles.{value-wins, value-self_wins}
 use Rattle.pop_walk.proofs.Trees.{as_nodes, beneath, by_test, flat-filter, halves, halves-seek, keeps-value, nodes_below-key, nodes_below-set, shown_paths-help, shown_paths-zero}
@@ -48,9 +48,9 @@ module _ {M : Type 0} where
   map-filter test other F G [] s e = search rules
   map-filter test other F G (x ∷ xs) s e = search (rules, map-filter test other F G xs s e)
 
-module _ {P M : Type 0} (game : Game P M) (plan : Plan) where
+module _ {P M : Type 0} (game : Game P M) (mode : Mode) where
   -- no path that the walk gives is empty
-  shown_paths-full : (root : Bool) (k left : ℕ) (p : P) (ms : List M) → list_all some (shown_paths plan game root k left p ms) ≡ true
+  shown_paths-full : (root : Bool) (k left : ℕ) (p : P) (ms : List M) → list_all some (shown_paths mode game root k left p ms) ≡ true
   unfolding shown_paths
   shown_paths-full root zero left p ms = search rules
   shown_paths-full root (suc k) zero p ms = search rules
@@ -58,15 +58,15 @@ module _ {P M : Type 0} (game : Game P M) (plan : Plan) where
   shown_paths-full root (suc k) (suc t) p (m ∷ ms) = search (rules, list_all-append, all-over, shown_paths-full root (suc k) (suc t) p ms)
 
   -- the root in battle play: its moves that meet the test, each with the nodes below it
-  root-cut : (battle : Battle) (fought : plan.battle ≡ Some battle) (h n : ℕ) (p : P) (ms : List M) (other : M → Bool) (G : M → List (List M))
+  root-cut : (battle : Battle) (fought : mode.battle ≡ Some battle) (h n : ℕ) (p : P) (ms : List M) (other : M → Bool) (G : M → List (List M))
       → ((m : M) → value battle game h (game.after p m) ≡ other m)
-      → ((m : M) → value battle game h (game.after p m) ≡ true → beneath game plan battle fought h h (game.after p m) ≡ G m)
-      → IsCutInto false n (shown_paths plan game true (suc h) (suc h) p ms) (map (λ m. node m (G m)) (filter other ms))
+      → ((m : M) → value battle game h (game.after p m) ≡ true → beneath game mode battle fought h h (game.after p m) ≡ G m)
+      → IsCutInto false n (shown_paths mode game true (suc h) (suc h) p ms) (map (λ m. node m (G m)) (filter other ms))
   root-cut battle fought h n p ms other G same each =
       let T : M → Bool = λ m. value battle game h (game.after p m) in
-      let X : M → List (List M) = λ m. beneath game plan battle fought h h (game.after p m) in
-      let nodes = as_nodes game plan battle fought true h h p ms
-      ∙ flat-filter _ T (λ m. node m (X m)) (λ m. node m (X m)) ms (λ m. by_test game plan battle fought true h (game.after p m) refl) (λ m t. refl) in
+      let X : M → List (List M) = λ m. beneath game mode battle fought h h (game.after p m) in
+      let nodes = as_nodes game mode battle fought true h h p ms
+      ∙ flat-filter _ T (λ m. node m (X m)) (λ m. node m (X m)) ms (λ m. by_test game mode battle fought true h (game.after p m) refl) (λ m t. refl) in
       rw (nodes, ← map-filter T other (λ m. node m (X m)) (λ m. node m (G m)) ms same (λ m t. ap (node m) (each m t)))
       (nodes-cut X (grind (arith, shown_paths-full)) n (filter T ms))
 
@@ -87,25 +87,25 @@ module _ {P M : Type 0} where
       (cond (game.goal (game.after p d)) [] (map (λ m. m ∷ []) (best_moves battle game n (game.after p d))))))
       (filter (λ d. is_in_set_play battle game n (game.after p d)) ms)
 
-module _ {P M : Type 0} (game : Game P M) (plan : Plan) (battle : Battle) (fought : plan.battle ≡ Some battle) where
+module _ {P M : Type 0} (game : Game P M) (mode : Mode) (battle : Battle) (fought : mode.battle ≡ Some battle) where
   set_value : (battle : Battle) (n h : ℕ) (r : P) → suc h ≡ halves battle n - 1 → value battle game h r ≡ is_in_set_play battle game n r
   set_value battle n h r e = grind (arith, value-wins game (n - 2) r, value-self_wins game (n - 1) r)
 
   -- the play: the tree
   pub tree-cut : (n h max : ℕ) (p : P) (ms : List M) → suc h ≡ halves battle n
-      → IsCutInto false max (shown_paths plan game true (suc h) (suc h) p ms) (tree_by battle game plan.variation n (suc h) p ms)
+      → IsCutInto false max (shown_paths mode game true (suc h) (suc h) p ms) (tree_by battle game mode.variation n (suc h) p ms)
   tree-cut n h max p ms e =
       let one : suc h - 1 ≡ h = omega arith in
-      rw one (root-cut game plan battle fought h max p ms _ _ (λ m. keeps-value game battle n h (game.after p m) e)
-      (λ m v. nodes_below-key game plan battle fought n h (game.after p m) (halves-seek game battle n h e) (grind arith) v))
+      rw one (root-cut game mode battle fought h max p ms _ _ (λ m. keeps-value game battle n h (game.after p m) e)
+      (λ m v. nodes_below-key game mode battle fought n h (game.after p m) (halves-seek game battle n h e) (grind arith) v))
 
   -- set play
   pub set-cut : (n h max : ℕ) (p : P) (ms : List M) → suc h ≡ halves battle n - 1
-      → IsCutInto false max (shown_paths plan game true (suc h) (suc h) p ms) (set_by battle game plan.variation n h p ms)
+      → IsCutInto false max (shown_paths mode game true (suc h) (suc h) p ms) (set_by battle game mode.variation n h p ms)
   set-cut n h max p ms e =
       let s : attacker_to_move battle (suc h + 1) ≡ true = halves-seek game battle n (suc h) (omega (arith, e)) in
-      root-cut game plan battle fought h max p ms _ _ (λ m. set_value battle n h (game.after p m) e)
-      (λ m v. nodes_below-set game plan battle fought n h (game.after p m) (search rules) (grind arith) v)
+      root-cut game mode battle fought h max p ms _ _ (λ m. set_value battle n h (game.after p m) e)
+      (λ m v. nodes_below-set game mode battle fought n h (game.after p m) (search rules) (grind arith) v)
 
 -- a phase of no half-moves
 none-cut : {M : Type 0} (help : Bool) (n : ℕ) → IsCutInto {M = M} help n [] []
@@ -113,23 +113,23 @@ unfolding kept_paths beginning_count
 none-cut {M = M} help n = search rules
 
 module _ (rule : RuleSet) (problem : Posed) (stated : IsSound problem) where
-  abbrev plan : Plan
-  plan = plan_of problem
+  abbrev mode : Mode
+  mode = mode_of problem
 
   cut : (phase : Phase) (battle : Option Battle) → battle_of problem.stipulation.form ≡ battle → (h : ℕ) → phase_half_moves problem phase ≡ h
-      → IsCutInto (is_none battle) problem.max_solutions (shown_paths plan (game_of rule problem) true h h (phase_start problem phase) (legal_moves rule
+      → IsCutInto (is_none battle) problem.max_solutions (shown_paths mode (game_of rule problem) true h h (phase_start problem phase) (legal_moves rule
       (phase_start problem phase))) (solutions_by battle rule problem phase)
   unfolding help_lines set_tree
   cut phase None e zero z = rw z (search (rules, shown_paths-zero, none-cut))
-  cut phase None e (suc h) z = rw (z, shown_paths-help (game_of rule problem) plan e true h (phase_start problem phase)) (lines-cut _ _)
+  cut phase None e (suc h) z = rw (z, shown_paths-help (game_of rule problem) mode e true h (phase_start problem phase)) (lines-cut _ _)
   cut Set (Some battle) e zero z = rw z (search (rules, shown_paths-zero, none-cut))
   cut Set (Some battle) e (suc h) z =
-      rw z (set-cut (game_of rule problem) plan battle e problem.stipulation.n h problem.max_solutions
+      rw z (set-cut (game_of rule problem) mode battle e problem.stipulation.n h problem.max_solutions
       (phase_start problem Set) (legal_moves rule (phase_start problem Set))
       (sym z ∙ ap (λ x. x - 1) (halves-form problem.stipulation.form problem.stipulation.n battle e)))
   cut Play (Some battle) e zero z = absurd (omega (arith, z, some_way problem stated))
   cut Play (Some battle) e (suc h) z =
-      rw z (tree-cut (game_of rule problem) plan battle e problem.stipulation.n h problem.max_solutions
+      rw z (tree-cut (game_of rule problem) mode battle e problem.stipulation.n h problem.max_solutions
       (phase_start problem Play) (legal_moves rule (phase_start problem Play))
       (sym z ∙ halves-form problem.stipulation.form problem.stipulation.n battle e))
 

@@ -1,5 +1,5 @@
 -- The walk shows exactly the tree of the definitions.
-use Rattle.pop_walk.proofs.Words.{Battle, Bool, Direct, Game, List, None, Plan, Selfmate, Some, [], continuations, ap, append-nil, arith, best_moves, cond, eqb, every_move, false, fewest_half_moves, filter, least_length_from, flat_map, flat_map_single, is_followed, is_emitted, walk_length, keeps_win, least_moves, lines_to_goal, list_all, map, nat_tests, node, nodes_below, not, shown_length, refl, rules, attacker_to_move, shown_paths, suc, sym, true, value, zero, ℕ, ◌%◌, ◌*◌, ◌++◌, ◌+◌, ◌-◌, ◌/◌, ◌<◌, ◌||◌, ◌∙◌, ◌∷◌, ◌≡◌, ◌≤◌, inl, inr}
+use Rattle.pop_walk.proofs.Words.{Battle, Bool, Direct, Game, List, None, Mode, Selfmate, Some, [], continuations, ap, append-nil, arith, best_moves, cond, eqb, every_move, false, fewest_half_moves, filter, least_length_from, flat_map, flat_map_single, is_followed, is_emitted, walk_length, keeps_win, least_moves, lines_to_goal, list_all, map, nat_tests, node, nodes_below, not, shown_length, refl, rules, attacker_to_move, shown_paths, suc, sym, true, value, zero, ℕ, ◌%◌, ◌*◌, ◌++◌, ◌+◌, ◌-◌, ◌/◌, ◌<◌, ◌||◌, ◌∙◌, ◌∷◌, ◌≡◌, ◌≤◌, inl, inr}
 use Rattle.pop_walk.proofs.Battles.{value-is_lost, value-is_self_lost, value-zero}
 use Rattle.pop_walk.proofs.Lengths.{length-more}
 use Rattle.pop_walk.proofs.GoingOn.{length_most, walk_length-keys, given-battle, walk_length-help, cases, least_length_from-least}
@@ -30,12 +30,12 @@ module _ {A B : Type 0} where
 
 module _ {P M : Type 0} (game : Game P M) where
   -- with no half-move left no path is shown
-  pub shown_paths-zero : (plan : Plan) (root : Bool) (k : ℕ) (p : P) (ms : List M) → shown_paths plan game root k 0 p ms ≡ []
+  pub shown_paths-zero : (mode : Mode) (root : Bool) (k : ℕ) (p : P) (ms : List M) → shown_paths mode game root k 0 p ms ≡ []
   unfolding shown_paths
-  shown_paths-zero plan root k p ms = search rules
+  shown_paths-zero mode root k p ms = search rules
 
   -- help play
-  module _ (plan : Plan) (help : plan.battle ≡ None) where
+  module _ (mode : Mode) (help : mode.battle ≡ None) where
     -- the lines by a move
     by_move : (b : Bool) (m : M) (xs ys : List (List M)) → cond b ([] ∷ []) [] ++ xs ≡ ys
         → cond b ((m ∷ []) ∷ []) [] ++ map (λ line. m ∷ line) xs ≡ map (λ line. m ∷ line) ys
@@ -43,13 +43,13 @@ module _ {P M : Type 0} (game : Game P M) where
 
     -- by some of the moves
     pub shown_paths-moves : (root : Bool) (k : ℕ) (p : P) (ms : List M)
-        → shown_paths plan game root (suc k) (suc k) p ms ≡ flat_map (λ m. map (λ line. m ∷ line) (lines_to_goal game k (game.after p m))) ms
+        → shown_paths mode game root (suc k) (suc k) p ms ≡ flat_map (λ m. map (λ line. m ∷ line) (lines_to_goal game k (game.after p m))) ms
     unfolding shown_paths is_followed is_emitted lines_to_goal
     shown_paths-moves root zero p ms = grind (arith, flat-same, by_move, append-nil)
     shown_paths-moves root (suc k) p ms = search (rules, flat-same, by_move, walk_length-help, nat_tests, shown_paths-moves false k)
 
     -- by all moves of a position
-    pub shown_paths-help : (root : Bool) (k : ℕ) (p : P) → shown_paths plan game root (suc k) (suc k) p (game.moves p) ≡ lines_to_goal game (suc k) p
+    pub shown_paths-help : (root : Bool) (k : ℕ) (p : P) → shown_paths mode game root (suc k) (suc k) p (game.moves p) ≡ lines_to_goal game (suc k) p
     unfolding lines_to_goal
     shown_paths-help root k p = shown_paths-moves root k p (game.moves p)
 
@@ -83,25 +83,25 @@ module _ {P M : Type 0} (game : Game P M) where
   halves-seek battle k l e = grind (arith, nat_tests)
 
   -- in battle play
-  module _ (plan : Plan) (battle : Battle) (fought : plan.battle ≡ Some battle) where
+  module _ (mode : Mode) (battle : Battle) (fought : mode.battle ≡ Some battle) where
     -- a move that is tested, and one that isn't
     pub by_test : (root : Bool) (t : ℕ) (q : P) → (root || attacker_to_move battle (t + 1)) ≡ true
-        → is_followed plan.battle game root t q ≡ value battle game t q
+        → is_followed mode.battle game root t q ≡ value battle game t q
     unfolding is_followed
     by_test root t q s = rw (fought, s) refl
 
-    by_none : (t : ℕ) (q : P) → attacker_to_move battle (t + 1) ≡ false → is_followed plan.battle game false t q ≡ true
+    by_none : (t : ℕ) (q : P) → attacker_to_move battle (t + 1) ≡ false → is_followed mode.battle game false t q ≡ true
     unfolding is_followed
     by_none t q s = rw (fought, s) refl
 
     -- what the walk shows by some moves, as nodes
     abbrev pub beneath : ℕ → ℕ → P → List (List M)
-    beneath k t q = shown_paths plan game false k (walk_length plan.battle plan.variation game t q) q (game.moves q)
+    beneath k t q = shown_paths mode game false k (walk_length mode.battle mode.variation game t q) q (game.moves q)
 
     -- each move that is followed is a node
     pub as_nodes : (root : Bool) (k t : ℕ) (p : P) (ms : List M)
-        → shown_paths plan game root (suc k) (suc t) p ms
-        ≡ flat_map (λ m. cond (is_followed plan.battle game root t (game.after p m)) (node m (beneath k t (game.after p m))) []) ms
+        → shown_paths mode game root (suc k) (suc t) p ms
+        ≡ flat_map (λ m. cond (is_followed mode.battle game root t (game.after p m)) (node m (beneath k t (game.after p m))) []) ms
     unfolding shown_paths
     as_nodes root k t p ms = search (rules, flat-same, given-battle)
 
@@ -109,7 +109,7 @@ module _ {P M : Type 0} (game : Game P M) where
     white : (n k t : ℕ) (q : P) (G : M → List (List M)) → attacker_to_move battle t ≡ true → 0 < t → t ≤ 2 * n → t ≤ suc k → game.goal q ≡ false
         → value battle game t q ≡ true → ((l : ℕ) (m : M) → attacker_to_move battle (l + 1) ≡ true → l + 1 ≤ t
         → value battle game l (game.after q m) ≡ true → node m (beneath k l (game.after q m)) ≡ G m)
-        → shown_paths plan game false (suc k) (shown_length battle game t q) q (game.moves q)
+        → shown_paths mode game false (suc k) (shown_length battle game t q) q (game.moves q)
         ≡ flat_map G (best_moves battle game n q)
     unfolding shown_length
     white n k zero q G s some most room open_yet v each = absurd (omega (arith, some))
@@ -126,17 +126,17 @@ module _ {P M : Type 0} (game : Game P M) where
         (game.moves q) (λ m. by_test false (L - 1) (game.after q m) s2 ∙ keeps-value battle least (L - 1) (game.after q m) h)
         (λ m v2. each (L - 1) m s2 (omega (arith, up, most2)) (sym (by_test false (L - 1) (game.after q m) s2) ∙ v2)))
 
-    open-goal : (k : ℕ) (q : P) → game.goal q ≡ true → shown_paths plan game false k (shown_length battle game k q) q (game.moves q) ≡ []
+    open-goal : (k : ℕ) (q : P) → game.goal q ≡ true → shown_paths mode game false k (shown_length battle game k q) q (game.moves q) ≡ []
     unfolding shown_length
     open-goal k q g = search (rules, shown_paths-zero)
 
-    module _ (variation : plan.variation ≡ true) where
-      beneath-is : (k t : ℕ) (q : P) → beneath k t q ≡ shown_paths plan game false k (shown_length battle game t q) q (game.moves q)
+    module _ (variation : mode.variation ≡ true) where
+      beneath-is : (k t : ℕ) (q : P) → beneath k t q ≡ shown_paths mode game false k (shown_length battle game t q) q (game.moves q)
       unfolding walk_length
       beneath-is k t q = rw (fought, variation) refl
 
       abbrev Tie : ℕ → ℕ → ℕ → P → Type 0
-      Tie n k t q = shown_paths plan game false k (shown_length battle game t q) q (game.moves q) ≡ cond (attacker_to_move battle t)
+      Tie n k t q = shown_paths mode game false k (shown_length battle game t q) q (game.moves q) ≡ cond (attacker_to_move battle t)
           (continuations battle game n k q) (nodes_below battle game n k q)
 
       tie-goal : (n k t : ℕ) (q : P) → game.goal q ≡ true → Tie n k t q
@@ -164,35 +164,35 @@ module _ {P M : Type 0} (game : Game P M) where
           search (rules, cases (game.goal q), cases (attacker_to_move battle (suc t)), tie-black, tie-white, tie-goal, tie n k)
 
     -- where no variations are shown, nothing stands below a move of White
-    beneath-none : (k t : ℕ) (q : P) → plan.variation ≡ false → attacker_to_move battle (t + 1) ≡ true → beneath k t q ≡ []
+    beneath-none : (k t : ℕ) (q : P) → mode.variation ≡ false → attacker_to_move battle (t + 1) ≡ true → beneath k t q ≡ []
     beneath-none k t q v s = search (rules, walk_length-keys, shown_paths-zero)
 
     beneath-set : (k t : ℕ) (q : P) → attacker_to_move battle (t + 1) ≡ false
-        → beneath k t q ≡ shown_paths plan game false k (shown_length battle game t q) q (game.moves q)
+        → beneath k t q ≡ shown_paths mode game false k (shown_length battle game t q) q (game.moves q)
     unfolding walk_length
     beneath-set k t q s = search rules
 
     -- below a key
     pub nodes_below-key : (n h : ℕ) (q : P) → attacker_to_move battle (h + 1) ≡ true → suc h ≤ 2 * n → value battle game h q ≡ true
-        → beneath h h q ≡ cond plan.variation (nodes_below battle game n h q) []
-    nodes_below-key n h q s most v = elim (cases plan.variation) [
+        → beneath h h q ≡ cond mode.variation (nodes_below battle game n h q) []
+    nodes_below-key n h q s most v = elim (cases mode.variation) [
       | inl alone ↦ search (rules, beneath-none h h q alone s)
       | inr e ↦ search (rules, beneath-is e h h q, tie e n h h q v, attacker_to_move-step)
     ]
 
     -- below a first move of Black in set play
     pub nodes_below-set : (n h : ℕ) (r : P) → attacker_to_move battle h ≡ true → h ≤ 2 * n → value battle game h r ≡ true
-        → beneath h h r ≡ cond plan.variation (continuations battle game n h r)
+        → beneath h h r ≡ cond mode.variation (continuations battle game n h r)
         (cond (game.goal r) [] (map (λ m. m ∷ []) (best_moves battle game n r)))
-    nodes_below-set n h r s most v = elim (cases plan.variation) [
+    nodes_below-set n h r s most v = elim (cases mode.variation) [
       | inl alone ↦ beneath-set h h r (attacker_to_move-step battle h ∙ ap not s) ∙ no_variation alone h refl (game.goal r) refl
           ∙ sym (ap (λ (b : Bool). cond b (continuations battle game n h r)
           (cond (game.goal r) [] (map (λ m. m ∷ []) (best_moves battle game n r)))) alone)
       | inr e ↦ search (rules, beneath-is e h h r, tie e n h h r v)
     ]
       where
-        no_variation : plan.variation ≡ false → (h2 : ℕ) → h ≡ h2 → (g : Bool) → game.goal r ≡ g
-            → shown_paths plan game false h2 (shown_length battle game h2 r) r (game.moves r) ≡ cond g [] (map (λ m. m ∷ []) (best_moves battle game n r))
+        no_variation : mode.variation ≡ false → (h2 : ℕ) → h ≡ h2 → (g : Bool) → game.goal r ≡ g
+            → shown_paths mode game false h2 (shown_length battle game h2 r) r (game.moves r) ≡ cond g [] (map (λ m. m ∷ []) (best_moves battle game n r))
         no_variation e h2 i true g = open-goal h2 r g
         no_variation e zero i false g = absurd (grind (arith, value-zero))
         no_variation e (suc k) i false g =

@@ -2,7 +2,7 @@
 pub use Rattle.pop_battle.proofs.Words.{Bool, CameFrom, CameFromAt, Frame, Game, Goal, HasCounted, IfSome, IsPlaceIn, IsWellFormed, LegalPlace, List, MatchOption, Mate, Move, None, Option, Position, RuleSet, Some, Undo, [], after_well_formed, all_triples, and_parts, ap, append-nil, append_assoc, arith, can_move, cases_lt, chess, cond, drop, eqb, every_move, false, filter, from_map, inl, inr, is_for_mate, is_goal_reached, is_mating, may_be_made, is_some, left_at_top, legal_moves, length, length-append, length-reverse, list_all, list_any, min, met_after-end, nat_tests, not, position_after, range_with_len, refl, reverse, reverse-append, rules, attacker_to_move, some_move, suc, sum_by, sum_by-cons, sym, take, take_all, true, zero, ℕ, ◌%◌, ◌&&◌, ◌++◌, ◌+◌, ◌-◌, ◌<◌, ◌^◌, ◌||◌, ◌∙◌, ◌∷◌, ◌≡◌, ◌≤◌, ◌⊎◌}
 pub use Rattle.pop_battle.proofs.Words.{mates_after, mates_after-are, moves_after}
 unfoldable pub use Rattle.pop_battle.proofs.Words.{met_after}
-unfoldable pub use Rattle.pop_battle.proofs.Words.{AreKnown, IsLinked, is_legal, is_mate, position, smallest_tree, undo_of, value, walk_count}
+unfoldable pub use Rattle.pop_battle.proofs.Words.{AreCursors, IsLinked, is_legal, is_mate, position, smallest_tree, undo_of, value, walk_count}
 pub use Rattle.std.proofs.Common.{get_or, is_none, length-take, map, slice_get, subst, ◌*◌, ◌/◌, ◌↔◌, ◌≢◌}
 pub use Rattle.std.proofs.lemmas.Bool.{false≢true, or_cases}
 pub use Rattle.std.proofs.lemmas.List.{map-append, take-append-drop, take-map, take_more, drop-drop, map-id, nil_from_length}
@@ -38,12 +38,12 @@ pub use Rattle.pop_walk.specs.declared.phases.Stage.{Stage}
 pub use Rattle.pop_walk.specs.declared.phases.Walk.{Walk}
 pub use Rattle.pop_walk.specs.declared.phases.Stage.TheVariants.{NotPossible, Before, First, After, Within}
 pub use Rattle.pop_walk.specs.declared.phases.Scope.TheVariants.{Part, Whole}
-pub use Rattle.pop_walk.specs.declared.plan.Plan.{Plan}
+pub use Rattle.pop_walk.specs.declared.mode.Mode.{Mode}
 pub use Rattle.pop_battle.specs.ties.Frames.{opened_frame}
 unfoldable pub use Rattle.pop_battle.specs.ties.Frames.{to_open, walk_after}
 pub use Rattle.pop_walk.specs.ties.Phases.{Gives, events_after, events_along, IsCountedUpTo, Walks, begins_solution, phase_paths}
 unfoldable pub use Rattle.pop_walk.specs.ties.Phases.{HoldsAtStage, beginning_count, kept_paths, left_of}
-pub use Rattle.pop_walk.specs.ties.Plans.{goes_on, plan_of, walk_of}
+pub use Rattle.pop_walk.specs.ties.Modes.{goes_on, mode_of, walk_of}
 pub use Rattle.pop_walk.specs.ties.Seen.{IsAtPathOf}
 pub use Rattle.pop_walk.specs.Walks.{is_stop, is_unstopped, is_walked_once, phase_walk}
 pub use Rattle.pop_walk.specs.ties.Walk.{GoesTo, IsEnded, IsNextOf, IsWalking, Steps, ends_at_goal, fewest_half_moves, seeks_last}

@@ -1,6 +1,6 @@
 pub mod Beginnings
 pub mod Counts
 pub mod Phases
-pub mod Plans
+pub mod Modes
 pub mod Seen
 pub mod Walk

@@ -13,8 +13,8 @@ ghost use Rattle.pop_walk.specs.ties.Phases.{events_along, left_of, HoldsAtStage
 ghost use Rattle.pop_walk.specs.ties.Walk.{IsMatedAtLast, IsWellFormed, is_for_mate, seeks_last};
 
 use crate::guess::guess_killers;
+use crate::mode::Mode;
 use crate::phases::{Scope, Stage, Walk, phase_half_moves};
-use crate::plan::Plan;
 use crate::walk::{ends_with_mate, enter};
 use arrayvec::ArrayVec;
 use chess_core::{Board, Move};
@@ -29,22 +29,22 @@ use pop_stipulation::MOST_HALF_MOVES;
 /// Returns whether a path may begin with this legal move, after which `left` half-moves are left: if each
 /// path ends with it and mates, only if it mates.
 #[tactic(auto, using(chess_rules::proofs::LegalMoves::may_be_made))]
-fn may_lead<R: Rules>(plan: Plan, left: usize, by: Move, board: &mut Board) -> bool
+fn may_lead<R: Rules>(mode: Mode, left: usize, by: Move, board: &mut Board) -> bool
     requires well_formed { IsWellFormed board.old }
     requires few { left ≤ MOST_HALF_MOVES }
     requires legal { is_legal R.rule board.old by ≡ true }
     ensures unchanged { board.new ≡ board.old }
-    ensures mated { result ≡ true → IsMatedAtLast R.rule plan left
+    ensures mated { result ≡ true → IsMatedAtLast R.rule mode left
         (position_after R.rule board.old by) }
-    ensures fails { result ≡ false → (is_for_mate plan.goal ≡ true)
-        × (seeks_last plan.battle ≡ true) × (left ≡ 0)
+    ensures fails { result ≡ false → (is_for_mate mode.goal ≡ true)
+        × (seeks_last mode.battle ≡ true) × (left ≡ 0)
         × (is_mate R.rule (position_after R.rule board.old by) ≡ false) }
 {
-    if !ends_with_mate(plan, left + 1) {
+    if !ends_with_mate(mode, left + 1) {
         return true;
     }
     let undo = play::<R>(board, by);
-    let mates = reaches_goal::<R>(plan.goal, board);
+    let mates = reaches_goal::<R>(mode.goal, board);
     unplay::<R>(board, by, undo);
     mates
 }
@@ -57,7 +57,7 @@ pub fn begin_after<R: Rules, const N: usize>(
     by: Move,
     board: &mut Board,
     frames: &mut ArrayVec<Frame<R>, N>,
-    search_state: &mut SearchState<R>,
+    search_state: &mut SearchState,
 ) -> Stage
     requires sound { IsSound problem.now }
     requires room { half_moves problem.now.stipulation < N }
@@ -77,14 +77,14 @@ pub fn begin_after<R: Rules, const N: usize>(
         search_state.new.opened }
 {
     let walk = Walk::of(problem, phase, Scope::Part);
-    let plan = Plan::of(problem);
+    let mode = Mode::of(problem);
     let depth = frames.len();
     let left = phase_half_moves(problem, phase) - depth;
-    if !may_lead::<R>(plan, left, by, board) {
+    if !may_lead::<R>(mode, left, by, board) {
         return Stage::Within { walk, count: 0 };
     }
-    guess_killers::<R>(plan, left, by, board, &mut search_state.killers);
-    if enter::<R, N>(plan, left, by, board, frames, search_state) {
+    guess_killers::<R>(mode, left, by, board, &mut search_state.killers);
+    if enter::<R, N>(mode, left, by, board, frames, search_state) {
         return Stage::First { walk };
     }
     Stage::Within { walk, count: 0 }

@@ -8,10 +8,10 @@ ghost use Rattle.pop_battle.specs.Chess.{chess};
 ghost use Rattle.pop_stipulation.specs.declared.stipulation.Battle.TheVariants.{Selfmate};
 ghost use Rattle.pop_battle.specs.ties.Values.{value};
 
-use crate::plan::Plan;
+use crate::mode::Mode;
 use arrayvec::ArrayVec;
 use chess_core::{Board, Move};
-use chess_rules::{Moves, Rules, play};
+use chess_rules::{MovePlace, Rules, play};
 use pop_battle::aim::Aim;
 use pop_battle::chess::next_move;
 use pop_battle::frame::Frame;
@@ -36,7 +36,7 @@ fn cost_of_test<R: Rules>(
     aim: Aim,
     left: usize,
     board: &Board,
-    killers: &mut Killers<R>,
+    killers: &mut Killers,
 ) -> (bool, u64)
     requires well_formed { IsWellFormed board.now }
     requires few { left ≤ MOST_HALF_MOVES }
@@ -63,7 +63,7 @@ fn cost_of_defence<R: Rules>(
     left: usize,
     by: Move,
     board: &Board,
-    killers: &mut Killers<R>,
+    killers: &mut Killers,
 ) -> Option<u64>
     requires well_formed { IsWellFormed board.now }
     requires legal { is_legal R.rule board.now by ≡ true }
@@ -83,17 +83,17 @@ fn cheapest_defence<R: Rules>(
     aim: Aim,
     left: usize,
     board: &Board,
-    killers: &mut Killers<R>,
-) -> Option<Moves<R>>
+    killers: &mut Killers,
+) -> Option<MovePlace>
     requires well_formed { IsWellFormed board.now }
     requires few { left ≤ MOST_HALF_MOVES }
 {
     let mut stand = *board;
-    let mut known = None;
-    let mut place = Moves::<R>::start();
+    let mut cursor = None;
+    let mut place = MovePlace::start();
     let mut best = None;
     let mut least = u64::MAX;
-    while let Some(by) = next_move::<R>(&mut known, &mut place, &mut stand) {
+    while let Some(by) = next_move::<R>(&mut cursor, &mut place, &mut stand) {
         if let Some(cost) = cost_of_defence::<R>(aim, left, by, &stand, killers) {
             if cost < least {
                 least = cost;
@@ -105,7 +105,7 @@ fn cheapest_defence<R: Rules>(
 }
 
 /// Makes the cheapest defence, if any holds, the killer for `left` half-moves.
-fn choose_killer<R: Rules>(aim: Aim, left: usize, board: &Board, killers: &mut Killers<R>)
+fn choose_killer<R: Rules>(aim: Aim, left: usize, board: &Board, killers: &mut Killers)
     requires well_formed { IsWellFormed board.now }
     requires few { left ≤ MOST_HALF_MOVES }
 {
@@ -120,24 +120,24 @@ fn choose_killer<R: Rules>(aim: Aim, left: usize, board: &Board, killers: &mut K
 /// help play and selfmates the killers stay unchanged.
 #[tactic(auto, using(chess_rules::proofs::LegalMoves::may_be_made))]
 pub(crate) fn guess_killers<R: Rules>(
-    plan: Plan,
+    mode: Mode,
     left: usize,
     by: Move,
     board: &Board,
-    killers: &mut Killers<R>,
+    killers: &mut Killers,
 )
     requires well_formed { IsWellFormed board.now }
     requires legal { is_legal R.rule board.now by ≡ true }
     requires few { left ≤ MOST_HALF_MOVES }
-    ensures help { plan.battle ≡ None → killers.new ≡ killers.old }
-    ensures selfmate { plan.battle ≡ Some Selfmate → killers.new ≡ killers.old }
+    ensures help { mode.battle ≡ None → killers.new ≡ killers.old }
+    ensures selfmate { mode.battle ≡ Some Selfmate → killers.new ≡ killers.old }
 {
-    if !wants_guess(plan.battle, left) {
+    if !wants_guess(mode.battle, left) {
         return;
     }
     let aim = Aim {
         battle: Battle::Direct,
-        goal: plan.goal,
+        goal: mode.goal,
     };
     let mut stand = *board;
     let _undo = play::<R>(&mut stand, by);

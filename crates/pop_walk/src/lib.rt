@@ -17,13 +17,13 @@
 //!
 //! The interface is the phase: `phases` (`advance` returns the next event of a search) and `beginning`, which
 //! begins the search of a phase after given moves. `pop_tries` also walks what follows a first move by the
-//! functions of `plan`, `walk` and `showing`. No call allocates.
+//! functions of `mode`, `walk` and `showing`. No call allocates.
 #![tactic(auto)]
 
 pub mod beginning;
 mod guess;
+pub mod mode;
 pub mod phases;
-pub mod plan;
 mod reach;
 pub mod showing;
 pub mod walk;

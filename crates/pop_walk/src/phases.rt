@@ -7,18 +7,18 @@ ghost use Rattle.pop_stipulation.specs.Stipulations.{half_moves, is_help};
 ghost use Rattle.pop_walk.specs.Events.{first_phase, moves_shown, play_start, phase_half_moves as half_moves_of_phase, phase_start, phase_half as half_of_phase, event_of, is_impossible_phase, path_event, opening};
 ghost use Rattle.pop_walk.specs.ties.Counts.{CountsOn, CountsWalk, tries_all};
 ghost use Rattle.pop_walk.specs.ties.Walk.{IsEnded, IsWalking, path};
-ghost use Rattle.pop_walk.specs.ties.Plans.{goes_on, plan_of, walk_of};
+ghost use Rattle.pop_walk.specs.ties.Modes.{goes_on, mode_of, walk_of};
 ghost use Rattle.pop_walk.specs.ties.Phases.{left_of, HoldsAtStage, Walks, Gives};
 ghost use Rattle.pop_events.specs.declared.event.Event.TheVariants.{Line, Total};
 ghost use Rattle.pop_events.specs.declared.event.Phase.TheVariants.{Play};
 ghost use Rattle.pop_walk.specs.declared.phases.Stage.TheVariants.{Before, First, Within, After};
 
-use crate::plan::Plan;
+use crate::mode::Mode;
 use crate::showing::{last_shown, line};
 use crate::walk::{opened_with, step, step_back};
 use arrayvec::ArrayVec;
 use chess_core::Board;
-use chess_rules::{Moves, Rules};
+use chess_rules::{MovePlace, Rules};
 use pop_battle::chess::{is_impossible, turn_back, turn_over};
 use pop_battle::frame::Frame;
 use pop_battle::search_state::SearchState;
@@ -34,11 +34,11 @@ pub enum Scope {
     Part,
 }
 
-/// How a phase is walked: the phase, its plan, its number of half-moves, and what the search covers.
+/// How a phase is walked: the phase, its mode, its number of half-moves, and what the search covers.
 #[derive(Clone, Copy)]
 pub struct Walk {
     pub phase: Phase,
-    pub plan: Plan,
+    pub mode: Mode,
     pub half_moves: usize,
     pub scope: Scope,
 }
@@ -87,7 +87,7 @@ impl Walk {
     {
         Walk {
             phase,
-            plan: Plan::of(problem),
+            mode: Mode::of(problem),
             half_moves: phase_half_moves(problem, phase),
             scope,
         }
@@ -131,24 +131,24 @@ fn walk_on<R: Rules, const N: usize, const PRUNES: bool>(
     count: u32,
     board: &mut Board,
     frames: &mut ArrayVec<Frame<R>, N>,
-    search_state: &mut SearchState<R>,
+    search_state: &mut SearchState,
 ) -> bool
-    requires plan { walk.plan ≡ plan_of problem.now }
+    requires mode { walk.mode ≡ mode_of problem.now }
     requires room { walk.half_moves < N }
     requires count { count ≤ problem.now.max_solutions }
     requires walking { IsWalking R.rule walk.half_moves (phase_start problem.now walk.phase)
         (reverse frames.old.items) board.old }
-    ensures walks { Walks R.rule walk.plan (is_none walk.plan.battle) walk.half_moves
+    ensures walks { Walks R.rule walk.mode (is_none walk.mode.battle) walk.half_moves
         (phase_start problem.now walk.phase) (problem.now.max_solutions - count)
         (reverse frames.old.items) (reverse frames.new.items)
         board.new result }
-    ensures counts { CountsWalk (tries_all PRUNES walk.plan.battle) R.rule walk.plan
+    ensures counts { CountsWalk (tries_all PRUNES walk.mode.battle) R.rule walk.mode
         walk.half_moves (phase_start problem.now walk.phase) (reverse frames.old.items)
         (reverse frames.new.items) search_state.old.opened search_state.new.opened }
 {
     let limit = still_to_begin(problem, count);
     while !frames.is_empty() && !limit_ends_phase(problem, frames.len(), limit) {
-        if step::<R, N, PRUNES>(walk.plan, walk.half_moves, board, frames, search_state) {
+        if step::<R, N, PRUNES>(walk.mode, walk.half_moves, board, frames, search_state) {
             return true;
         }
     }
@@ -170,20 +170,20 @@ fn close_all<R: Rules, const N: usize>(board: &mut Board, frames: &mut ArrayVec<
 
 /// Returns the event of the line of help play that leads to the top frame; `half` is the number of its
 /// first half-move. A function of its own, which keeps the room for the line's moves out of `event_at`.
-fn line_at<R: Rules>(plan: Plan, half: u32, frames: &[Frame<R>], board: &mut Board) -> Event
+fn line_at<R: Rules>(mode: Mode, half: u32, frames: &[Frame<R>], board: &mut Board) -> Event
     requires shallow { length frames.now ≤ MOST_FRAMES }
     requires walking { (h : ℕ) × (p : Position)
         × IsWalking R.rule h p (reverse frames.now) board.old }
-    requires ended { IsEnded R.rule plan (reverse frames.now) board.old }
+    requires ended { IsEnded R.rule mode (reverse frames.now) board.old }
     ensures unchanged { board.new ≡ board.old }
     ensures line { (h : ℕ) (p : Position) → IsWalking R.rule h p (reverse frames.now) board.old
         → result ≡ Line half (record {
-          items = moves_shown plan.goal R.rule p (path (reverse frames.now));
+          items = moves_shown mode.goal R.rule p (path (reverse frames.now));
         }) }
 {
     Event::Line {
         half,
-        moves: line::<R>(plan, frames, board),
+        moves: line::<R>(mode, frames, board),
     }
 }
 
@@ -194,25 +194,25 @@ fn event_at<R: Rules>(
     frames: &[Frame<R>],
     board: &mut Board,
 ) -> Event
-    requires plan { walk.plan ≡ plan_of problem.now }
+    requires mode { walk.mode ≡ mode_of problem.now }
     requires deep { 2 ≤ length frames.now }
     requires shallow { length frames.now ≤ MOST_FRAMES }
     requires walking { (h : ℕ) × IsWalking R.rule h (phase_start problem.now walk.phase)
         (reverse frames.now) board.old }
-    requires ended { IsEnded R.rule walk.plan (reverse frames.now) board.old }
+    requires ended { IsEnded R.rule walk.mode (reverse frames.now) board.old }
     ensures unchanged { board.new ≡ board.old }
     ensures event { result ≡ event_of R.rule problem.now
         (path_event problem.now walk.phase (path (reverse frames.now))) }
 {
     let half = phase_half(problem, walk.phase);
     if problem.stipulation().form.is_help() {
-        return line_at::<R>(walk.plan, half, frames, board);
+        return line_at::<R>(walk.mode, half, frames, board);
     }
     let depth = (frames.len() - 2) as u32;
     Event::Node {
         depth,
         half: half + depth,
-        shown: last_shown::<R>(walk.plan, frames, board),
+        shown: last_shown::<R>(walk.mode, frames, board),
     }
 }
 
@@ -242,7 +242,7 @@ fn begin<R: Rules, const N: usize, const PRUNES: bool>(
     phase: Phase,
     board: &mut Board,
     frames: &mut ArrayVec<Frame<R>, N>,
-    search_state: &mut SearchState<R>,
+    search_state: &mut SearchState,
 ) -> Stage
     requires sound { IsSound problem.now }
     requires room { half_moves problem.now.stipulation < N }
@@ -261,9 +261,9 @@ fn begin<R: Rules, const N: usize, const PRUNES: bool>(
     let walk = Walk::of(problem, phase, Scope::Whole);
     let left = walk.half_moves;
     frames.push(Frame {
-        place: Moves::start(),
+        place: MovePlace::start(),
         left,
-        known: None,
+        cursor: None,
         ..Frame::default()
     });
     search_state.opened = opened_with(search_state.opened, left);
@@ -359,7 +359,7 @@ pub fn advance<R: Rules, const N: usize, const PRUNES: bool>(
     stage: &mut Stage,
     board: &mut Board,
     frames: &mut ArrayVec<Frame<R>, N>,
-    search_state: &mut SearchState<R>,
+    search_state: &mut SearchState,
     event: &mut Option<Event>,
 )
     requires sound { IsSound problem.now }

@@ -7,7 +7,7 @@ ghost use Rattle.chess_rules.specs.Play.{position_after};
 ghost use Rattle.pop_battle.specs.declared.frame.LineEnds.{LineEnds as KnownEnds};
 ghost use Rattle.pop_walk.specs.ties.Walk.{AreEndsAfter, IsKingOff, IsWellFormed, KeepsEnds};
 
-use crate::plan::Plan;
+use crate::mode::Mode;
 use arrayvec::ArrayVec;
 use chess_core::{Board, Move, Squares};
 use chess_flights::attackers::has_fairy_promotions;
@@ -27,11 +27,11 @@ const MOST_COMPUTED: u32 = 8;
 const MOST_COMPUTED_REBORN: u32 = 3;
 
 /// Returns what is known of the lines that reach this goal: that they end on some square, if nothing is.
-fn line_ends_known(goal: Goal, known: Option<LineEnds>) -> LineEnds
+fn line_ends_or_all(goal: Goal, line_ends: Option<LineEnds>) -> LineEnds
     ensures goal { result.goal ≡ goal }
-    ensures known { (known ≡ Some result) ⊎ (result.squares ≡ 2 ^ 64 - 1) }
+    ensures line_ends { (line_ends ≡ Some result) ⊎ (result.squares ≡ 2 ^ 64 - 1) }
 {
-    match known {
+    match line_ends {
         Some(ends) if ends.goal == goal => ends,
         _ => LineEnds {
             goal,
@@ -102,32 +102,33 @@ fn may_compute<R: Rules>(left: usize, board: &Board) -> bool {
 }
 
 /// Returns what the walk knows of the lines after a legal move, with `left` half-moves left after it: nothing
-/// unless it prunes help play. `known` is what it knows of the lines with the move.
+/// unless it prunes help play. `line_ends` is what it knows of the lines with the move.
 #[inline(always)]
 pub(crate) fn line_ends_after<R: Rules, const PRUNES: bool>(
-    plan: Plan,
+    mode: Mode,
     left: usize,
     by: Move,
-    known: Option<LineEnds>,
+    line_ends: Option<LineEnds>,
     board: &mut Board,
 ) -> Option<LineEnds>
     requires well_formed { IsWellFormed board.old }
     requires legal { is_legal R.rule board.old by ≡ true }
-    requires known { IfSome known (λ e. HoldsEnds e.goal R.rule (left + 1) board.old e.squares) }
+    requires line_ends { IfSome line_ends
+        (λ e. HoldsEnds e.goal R.rule (left + 1) board.old e.squares) }
     ensures unchanged { board.new ≡ board.old }
     ensures ends { IfSome result (λ e. (PRUNES ≡ true)
-        × AreEndsAfter R.rule plan left (position_after R.rule board.old by) e) }
+        × AreEndsAfter R.rule mode left (position_after R.rule board.old by) e) }
 {
-    if !PRUNES || left == 0 || plan.battle.is_some() {
+    if !PRUNES || left == 0 || mode.battle.is_some() {
         return None;
     }
-    if known.is_none() && !may_compute::<R>(left, board) {
+    if line_ends.is_none() && !may_compute::<R>(left, board) {
         return None;
     }
-    let before = line_ends_known(plan.goal, known);
-    let squares = squares_after::<R>(plan.goal, left, by, before.squares, board);
+    let before = line_ends_or_all(mode.goal, line_ends);
+    let squares = squares_after::<R>(mode.goal, left, by, before.squares, board);
     Some(LineEnds {
-        goal: plan.goal,
+        goal: mode.goal,
         squares,
     })
 }

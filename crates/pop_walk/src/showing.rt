@@ -12,7 +12,7 @@ ghost use Rattle.pop_walk.specs.ties.Walk.{ends_at_goal, IsEnded, IsWalking, pat
 ghost use Rattle.pop_battle.specs.declared.chess.Reached.TheVariants.{Perhaps, Surely};
 ghost use Rattle.std.specs.Prelude.{◌≡◌, ◌+◌, ◌<◌, ◌≤◌, ℕ, if◌then◌else◌, length, reverse, true};
 
-use crate::plan::Plan;
+use crate::mode::Mode;
 use arrayvec::ArrayVec;
 use chess_core::Board;
 use chess_rules::{Rules, play, unplay};
@@ -25,7 +25,7 @@ use pop_stipulation::{Goal, MOST_FRAMES, MOST_HALF_MOVES};
 /// Takes back the move of a frame.
 #[tactic(auto, using(chess_rules::proofs::LegalMoves::may_be_made))]
 #[inline(always)]
-fn take_back<R: Rules>(frame: &Frame<R>, board: &mut Board)
+fn unplay_frame<R: Rules>(frame: &Frame<R>, board: &mut Board)
     requires came { CameFrom R.rule frame.now board.old }
     ensures before { (p : Position) → CameFromAt R.rule frame.now board.old p → board.new ≡ p }
 {
@@ -34,13 +34,13 @@ fn take_back<R: Rules>(frame: &Frame<R>, board: &mut Board)
 
 /// Returns whether the goal is known to be reached at the frame where an emitted path ends: always in
 /// help play; in a direct mate or stalemate with variations, where a whole variation ends.
-fn reached_at<R: Rules>(plan: Plan, frame: &Frame<R>) -> Reached
-    ensures { result ≡ if ends_at_goal plan.battle plan.variation frame.now.left
+fn reached_at<R: Rules>(mode: Mode, frame: &Frame<R>) -> Reached
+    ensures { result ≡ if ends_at_goal mode.battle mode.variation frame.now.left
         then Surely else Perhaps }
 {
-    match plan.battle {
+    match mode.battle {
         None => Reached::Surely,
-        Some(battle) if frame.left == 0 && plan.variation && attacker_to_move(battle, 1) => {
+        Some(battle) if frame.left == 0 && mode.variation && attacker_to_move(battle, 1) => {
             Reached::Surely
         }
         _ => Reached::Perhaps,
@@ -50,16 +50,16 @@ fn reached_at<R: Rules>(plan: Plan, frame: &Frame<R>) -> Reached
 /// Returns whether the goal is known to be reached at frame `k` of an emitted path. Below the top frame
 /// it isn't.
 #[tactic(auto, using(crate::proofs::Paths::left_last))]
-fn reached_along<R: Rules>(plan: Plan, frames: &[Frame<R>], k: usize) -> Reached
+fn reached_along<R: Rules>(mode: Mode, frames: &[Frame<R>], k: usize) -> Reached
     requires { k < length frames.now }
     ensures { result ≡ Surely → (k + 1 ≡ length frames.now)
-        × (ends_at_goal plan.battle plan.variation (left_at_top (reverse frames.now))
+        × (ends_at_goal mode.battle mode.variation (left_at_top (reverse frames.now))
         ≡ true) }
 {
     if k + 1 < frames.len() {
         return Reached::Perhaps;
     }
-    reached_at::<R>(plan, &frames[k])
+    reached_at::<R>(mode, &frames[k])
 }
 
 /// Plays the move of a frame again and returns it as it is shown. `reached` says whether it is known to
@@ -83,7 +83,7 @@ fn play_shown<R: Rules>(goal: Goal, reached: Reached, frame: &Frame<R>, board: &
 }
 
 /// Takes back all moves that lead to the top frame.
-fn take_all_back<R: Rules>(frames: &[Frame<R>], board: &mut Board)
+fn unplay_all<R: Rules>(frames: &[Frame<R>], board: &mut Board)
     requires walking { (h : ℕ) × (p : Position)
         × IsWalking R.rule h p (reverse frames.now) board.old }
     ensures start { (h : ℕ) (p : Position) → IsWalking R.rule h p (reverse frames.now) board.old
@@ -93,45 +93,45 @@ fn take_all_back<R: Rules>(frames: &[Frame<R>], board: &mut Board)
     let mut k = frames.len();
     while k > 1 {
         k -= 1;
-        take_back::<R>(&frames[k], board);
+        unplay_frame::<R>(&frames[k], board);
     }
 }
 
 /// Returns the moves that lead to the top frame, as they are shown: a line of help play.
 pub(crate) fn line<R: Rules>(
-    plan: Plan,
+    mode: Mode,
     frames: &[Frame<R>],
     board: &mut Board,
 ) -> ArrayVec<Shown, MOST_HALF_MOVES>
     requires shallow { length frames.now ≤ MOST_FRAMES }
     requires walking { (h : ℕ) × (p : Position)
         × IsWalking R.rule h p (reverse frames.now) board.old }
-    requires ended { IsEnded R.rule plan (reverse frames.now) board.old }
+    requires ended { IsEnded R.rule mode (reverse frames.now) board.old }
     ensures unchanged { board.new ≡ board.old }
     ensures line { (h : ℕ) (p : Position) → IsWalking R.rule h p (reverse frames.now) board.old
-        → result.items ≡ moves_shown plan.goal R.rule p (path (reverse frames.now)) }
+        → result.items ≡ moves_shown mode.goal R.rule p (path (reverse frames.now)) }
 {
-    take_all_back::<R>(frames, board);
+    unplay_all::<R>(frames, board);
     let mut line = ArrayVec::new();
     for k in 1..frames.len() {
-        let reached = reached_along::<R>(plan, frames, k);
-        line.push(play_shown::<R>(plan.goal, reached, &frames[k], board));
+        let reached = reached_along::<R>(mode, frames, k);
+        line.push(play_shown::<R>(mode.goal, reached, &frames[k], board));
     }
     line
 }
 
 /// Returns the last move that leads to the top frame, as it is shown.
-pub fn last_shown<R: Rules>(plan: Plan, frames: &[Frame<R>], board: &mut Board) -> Shown
+pub fn last_shown<R: Rules>(mode: Mode, frames: &[Frame<R>], board: &mut Board) -> Shown
     requires deep { 2 ≤ length frames.now }
     requires walking { (h : ℕ) × (p : Position)
         × IsWalking R.rule h p (reverse frames.now) board.old }
-    requires ended { IsEnded R.rule plan (reverse frames.now) board.old }
+    requires ended { IsEnded R.rule mode (reverse frames.now) board.old }
     ensures unchanged { board.new ≡ board.old }
     ensures shown { (h : ℕ) (p : Position) → IsWalking R.rule h p (reverse frames.now) board.old
-        → result ≡ last_shown plan.goal R.rule p (path (reverse frames.now)) }
+        → result ≡ last_shown mode.goal R.rule p (path (reverse frames.now)) }
 {
     let top = &frames[frames.len() - 1];
-    let reached = reached_at::<R>(plan, top);
-    take_back::<R>(top, board);
-    play_shown::<R>(plan.goal, reached, top, board)
+    let reached = reached_at::<R>(mode, top);
+    unplay_frame::<R>(top, board);
+    play_shown::<R>(mode.goal, reached, top, board)
 }

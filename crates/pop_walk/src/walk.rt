@@ -11,17 +11,17 @@ ghost use Rattle.pop_battle.specs.ties.Skipping.{IsNextMatable};
 ghost use Rattle.pop_walk.specs.ties.Counts.{CountsMove, CountsWalk, tries_all};
 ghost use Rattle.pop_walk.specs.ties.Walk.{Battle, IsWellFormed, Mate, Position, attacker_to_move, chess, is_for_mate, value, MovesOn, fewest_half_moves, least_length_from, shown_length, is_followed, is_emitted, walk_length, IsMatedAtLast, IsNextOf, IsWalking, seeks_last, Steps};
 
-use crate::plan::Plan;
+use crate::mode::Mode;
 use crate::reach::{is_out_of_reach, keep_line_ends, line_ends_after};
 use arrayvec::ArrayVec;
 use chess_core::{Board, Move};
 use chess_mates::next_mate;
-use chess_rules::{LegalCursor, Moves, Rules, play, unplay};
+use chess_rules::{LegalCursor, MovePlace, Rules, play, unplay};
 use chess_threats::Threats;
 use pop_battle::aim::Aim;
 use pop_battle::chess::{is_for_mate, next_move, reaches_goal};
 use pop_battle::frame::{Frame, MoveStage, Order};
-use pop_battle::search_state::SearchState;
+use pop_battle::search_state::{SearchState, show_fits_u64};
 use pop_battle::value::{attacker_to_move, value_of};
 use pop_stipulation::Battle;
 
@@ -43,7 +43,7 @@ fn least_length<R: Rules, const N: usize>(
     left: usize,
     board: &mut Board,
     frames: &mut ArrayVec<Frame<R>, N>,
-    search_state: &mut SearchState<R>,
+    search_state: &mut SearchState,
 ) -> usize
     requires well_formed { IsWellFormed board.old }
     requires room { array_vec_len frames.old + left ≤ N }
@@ -70,7 +70,7 @@ fn shown_length<R: Rules, const N: usize>(
     left: usize,
     board: &mut Board,
     frames: &mut ArrayVec<Frame<R>, N>,
-    search_state: &mut SearchState<R>,
+    search_state: &mut SearchState,
 ) -> usize
     requires well_formed { IsWellFormed board.old }
     requires room { array_vec_len frames.old + left ≤ N }
@@ -90,32 +90,32 @@ fn shown_length<R: Rules, const N: usize>(
 /// Returns how many half-moves the walk goes on from the board's position, with `left` half-moves left.
 #[tactic(auto, unfolding(crate::specs::ties::Walk::walk_length))]
 pub fn walk_length<R: Rules, const N: usize>(
-    plan: Plan,
+    mode: Mode,
     left: usize,
     board: &mut Board,
     frames: &mut ArrayVec<Frame<R>, N>,
-    search_state: &mut SearchState<R>,
+    search_state: &mut SearchState,
 ) -> usize
     requires well_formed { IsWellFormed board.old }
     requires room { array_vec_len frames.old + left ≤ N }
     ensures length { result
-        ≡ walk_length plan.battle plan.variation (chess plan.goal R.rule) left board.old }
+        ≡ walk_length mode.battle mode.variation (chess mode.goal R.rule) left board.old }
     ensures rest { Restores board.old board.new frames.old.items frames.new.items
         search_state.old.opened search_state.new.opened }
-    ensures opened { plan.battle ≡ None → search_state.new.opened ≡ search_state.old.opened }
-    ensures keys_alone { (battle : Battle) → plan.battle ≡ Some battle
-        → IsTrue (not plan.variation && attacker_to_move battle (left + 1))
+    ensures opened { mode.battle ≡ None → search_state.new.opened ≡ search_state.old.opened }
+    ensures keys_alone { (battle : Battle) → mode.battle ≡ Some battle
+        → IsTrue (not mode.variation && attacker_to_move battle (left + 1))
         → search_state.new.opened ≡ search_state.old.opened }
 {
-    let Some(battle) = plan.battle else {
+    let Some(battle) = mode.battle else {
         return left;
     };
-    if !plan.variation && attacker_to_move(battle, left + 1) {
+    if !mode.variation && attacker_to_move(battle, left + 1) {
         return 0;
     }
     let aim = Aim {
         battle,
-        goal: plan.goal,
+        goal: mode.goal,
     };
     shown_length::<R, N>(aim, left, board, frames, search_state)
 }
@@ -148,11 +148,11 @@ fn seeks_last(battle: Option<Battle>) -> bool
 
 /// Returns whether the next half-move ends every path and must mate: it is the last half-move of play for
 /// mate, by a side that wants mate.
-pub(crate) fn ends_with_mate(plan: Plan, left: usize) -> bool
-    ensures { IsTrue result ↔ ((is_for_mate plan.goal ≡ true) × (seeks_last plan.battle ≡ true)
+pub(crate) fn ends_with_mate(mode: Mode, left: usize) -> bool
+    ensures { IsTrue result ↔ ((is_for_mate mode.goal ≡ true) × (seeks_last mode.battle ≡ true)
         × (left ≡ 1)) }
 {
-    is_for_mate(plan.goal) && left == 1 && seeks_last(plan.battle)
+    is_for_mate(mode.goal) && left == 1 && seeks_last(mode.battle)
 }
 
 /// Returns the value of the position that a move has reached, with `left` half-moves left. It tests
@@ -163,7 +163,7 @@ fn value_after<R: Rules, const N: usize>(
     left: usize,
     board: &mut Board,
     frames: &mut ArrayVec<Frame<R>, N>,
-    search_state: &mut SearchState<R>,
+    search_state: &mut SearchState,
 ) -> bool
     requires well_formed { IsWellFormed board.old }
     requires room { array_vec_len frames.old + left ≤ N }
@@ -181,15 +181,15 @@ fn value_after<R: Rules, const N: usize>(
 /// Returns whether the path to the board's position is emitted, with `left` half-moves left. In help play
 /// for mate the last half-move is known to mate.
 #[tactic(auto, unfolding(crate::specs::ties::Walk::is_emitted))]
-fn is_emitted<R: Rules>(plan: Plan, left: usize, board: &mut Board) -> bool
+fn is_emitted<R: Rules>(mode: Mode, left: usize, board: &mut Board) -> bool
     requires well_formed { IsWellFormed board.old }
-    requires mated { IsMatedAtLast R.rule plan left board.old }
+    requires mated { IsMatedAtLast R.rule mode left board.old }
     ensures unchanged { board.new ≡ board.old }
-    ensures given { result ≡ is_emitted plan.battle (chess plan.goal R.rule) left board.old }
+    ensures given { result ≡ is_emitted mode.battle (chess mode.goal R.rule) left board.old }
 {
-    match plan.battle {
+    match mode.battle {
         Some(_) => true,
-        None => left == 0 && (is_for_mate(plan.goal) || reaches_goal::<R>(plan.goal, board)),
+        None => left == 0 && (is_for_mate(mode.goal) || reaches_goal::<R>(mode.goal, board)),
     }
 }
 
@@ -223,69 +223,69 @@ fn opened_after(opened: u64, tried: usize, tested: Option<Battle>) -> u64
 #[tactic(auto, using(chess_rules::proofs::LegalMoves::may_be_made, chess_rules::proofs::making_moves::Stays::after_well_formed), unfolding(crate::specs::ties::Walk::is_followed, crate::specs::ties::Walk::walk_length))]
 #[inline(always)]
 pub(crate) fn enter<R: Rules, const N: usize>(
-    plan: Plan,
+    mode: Mode,
     left: usize,
     by: Move,
     board: &mut Board,
     frames: &mut ArrayVec<Frame<R>, N>,
-    search_state: &mut SearchState<R>,
+    search_state: &mut SearchState,
 ) -> bool
     requires well_formed { IsWellFormed board.old }
     requires room { array_vec_len frames.old + left < N }
     requires legal { is_legal R.rule board.old by ≡ true }
-    requires mated { IsMatedAtLast R.rule plan left (position_after R.rule board.old by) }
-    ensures unfollowed { is_followed plan.battle (chess plan.goal R.rule)
+    requires mated { IsMatedAtLast R.rule mode left (position_after R.rule board.old by) }
+    ensures unfollowed { is_followed mode.battle (chess mode.goal R.rule)
         (array_vec_len frames.old == 1) left
         (position_after R.rule board.old by) ≡ false
         → (result ≡ false) × (board.new ≡ board.old) × (frames.new.items ≡ frames.old.items) }
-    ensures enters { is_followed plan.battle (chess plan.goal R.rule)
+    ensures enters { is_followed mode.battle (chess mode.goal R.rule)
         (array_vec_len frames.old == 1) left
         (position_after R.rule board.old by) ≡ true
-        → (result ≡ is_emitted plan.battle (chess plan.goal R.rule) left
+        → (result ≡ is_emitted mode.battle (chess mode.goal R.rule) left
         (position_after R.rule board.old by))
         × (board.new ≡ position_after R.rule board.old by)
         × (frames.new.items ≡ frames.old.items ++ opened_frame by (undo_of R.rule board.old by)
-        (walk_length plan.battle plan.variation (chess plan.goal R.rule) left
+        (walk_length mode.battle mode.variation (chess mode.goal R.rule) left
         (position_after R.rule board.old by))
         ∷ []) }
-    ensures counts { CountsMove R.rule plan (array_vec_len frames.old == 1) left
+    ensures counts { CountsMove R.rule mode (array_vec_len frames.old == 1) left
         (position_after R.rule board.old by) search_state.old.opened search_state.new.opened }
 {
     let depth = frames.len();
     let undo = play::<R>(board, by);
-    let tested = tested_in(plan.battle, depth, left + 1);
+    let tested = tested_in(mode.battle, depth, left + 1);
     if let Some(battle) = tested {
         let aim = Aim {
             battle,
-            goal: plan.goal,
+            goal: mode.goal,
         };
         if !value_after::<R, N>(aim, left, board, frames, search_state) {
             unplay::<R>(board, by, undo);
             return false;
         }
     }
-    let tried = walk_length::<R, N>(plan, left, board, frames, search_state);
+    let tried = walk_length::<R, N>(mode, left, board, frames, search_state);
     frames.push(Frame {
-        place: Moves::start(),
+        place: MovePlace::start(),
         by,
         undo,
         left: tried,
         order: Order::unordered(),
         move_stage: MoveStage::Others,
-        known: None,
+        cursor: None,
         line_ends: None,
     });
     search_state.opened = opened_after(search_state.opened, tried, tested);
-    is_emitted::<R>(plan, left, board)
+    is_emitted::<R>(mode, left, board)
 }
 
 /// Returns whether the search may skip moves to which no reply mates: in help play for mate with two
 /// half-moves left.
 #[tactic(auto, using(pop_battle::proofs::Boards::for_mate))]
-fn may_skip(plan: Plan, left: usize) -> bool
-    ensures { result ≡ true → (plan.battle ≡ None) × (plan.goal ≡ Mate) × (left ≡ 2) }
+fn may_skip(mode: Mode, left: usize) -> bool
+    ensures { result ≡ true → (mode.battle ≡ None) × (mode.goal ≡ Mate) × (left ≡ 2) }
 {
-    left == 2 && plan.battle.is_none() && is_for_mate(plan.goal)
+    left == 2 && mode.battle.is_none() && is_for_mate(mode.goal)
 }
 
 /// Returns the next legal move after `place`, and skips moves for which the threats rule out that a reply
@@ -294,23 +294,23 @@ fn may_skip(plan: Plan, left: usize) -> bool
 #[tactic(auto, using(pop_battle::proofs::Skipping::with_filter))]
 fn next_risky<R: Rules>(
     threats: &mut Threats,
-    known: &mut Option<LegalCursor<R>>,
-    place: &mut Moves<R>,
+    cursor: &mut Option<LegalCursor<R>>,
+    place: &mut MovePlace,
     board: &mut Board,
     opened: &mut u64,
 ) -> Option<Move>
     requires well_formed { IsWellFormed board.old }
     requires threats { AreThreatsOf R.rule board.old threats.old }
-    requires known { IfSome known.old (λ k. IsPlaceIn R.rule board.old k) }
+    requires cursor { IfSome cursor.old (λ k. IsPlaceIn R.rule board.old k) }
     ensures unchanged { board.new ≡ board.old }
-    ensures within { IfSome known.new (λ k. IsPlaceIn R.rule board.old k) }
+    ensures within { IfSome cursor.new (λ k. IsPlaceIn R.rule board.old k) }
     ensures next { IsNextMatable R.rule board.old place.old place.new opened.old opened.new
         result }
 {
-    if known.is_none() {
-        *known = Some(LegalCursor::<R>::of(board));
+    if cursor.is_none() {
+        *cursor = Some(LegalCursor::<R>::of(board));
     }
-    let Some(moves) = known else {
+    let Some(moves) = cursor else {
         return None;
     };
     moves.go_to(*place);
@@ -324,29 +324,28 @@ fn next_risky<R: Rules>(
 /// move.
 #[tactic(auto, using(pop_battle::proofs::Skipping::without_filter))]
 fn next_matable<R: Rules>(
-    known: &mut Option<LegalCursor<R>>,
-    place: &mut Moves<R>,
+    cursor: &mut Option<LegalCursor<R>>,
+    place: &mut MovePlace,
     board: &mut Board,
-    search_state: &mut SearchState<R>,
+    search_state: &mut SearchState,
 ) -> Option<Move>
     requires well_formed { IsWellFormed board.old }
-    requires known { IfSome known.old (λ k. IsPlaceIn R.rule board.old k) }
+    requires cursor { IfSome cursor.old (λ k. IsPlaceIn R.rule board.old k) }
     ensures unchanged { board.new ≡ board.old }
-    ensures within { IfSome known.new (λ k. IsPlaceIn R.rule board.old k) }
+    ensures within { IfSome cursor.new (λ k. IsPlaceIn R.rule board.old k) }
     ensures next { IsNextMatable R.rule board.old place.old place.new search_state.old.opened
         search_state.new.opened result }
 {
-    // For the proof: the count is below 2^64.
-    let _counted = search_state.opened;
-    if known.is_none() {
+    show_fits_u64(search_state.opened);
+    if cursor.is_none() {
         search_state.threats.renew::<R>(board);
     } else {
         search_state.threats.update::<R>(board);
     }
     let opened = &mut search_state.opened;
     match &mut search_state.threats.last {
-        Some(threats) => next_risky::<R>(threats, known, place, board, opened),
-        None => next_move::<R>(known, place, board),
+        Some(threats) => next_risky::<R>(threats, cursor, place, board, opened),
+        None => next_move::<R>(cursor, place, board),
     }
 }
 
@@ -355,32 +354,32 @@ fn next_matable<R: Rules>(
 /// may mate; otherwise the next legal move.
 #[tactic(auto, using(crate::proofs::Walking::next_mating, pop_battle::proofs::Boards::for_mate))]
 fn next_of<R: Rules>(
-    plan: Plan,
+    mode: Mode,
     left: usize,
-    known: &mut Option<LegalCursor<R>>,
-    place: &mut Moves<R>,
+    cursor: &mut Option<LegalCursor<R>>,
+    place: &mut MovePlace,
     board: &mut Board,
-    search_state: &mut SearchState<R>,
+    search_state: &mut SearchState,
 ) -> Option<Move>
     requires well_formed { IsWellFormed board.old }
-    requires known { IfSome known.old (λ k. IsPlaceIn R.rule board.old k) }
+    requires cursor { IfSome cursor.old (λ k. IsPlaceIn R.rule board.old k) }
     ensures unchanged { board.new ≡ board.old }
-    ensures within { IfSome known.new (λ k. IsPlaceIn R.rule board.old k) }
-    ensures next { IsNextOf R.rule plan left board.old place.old place.new search_state.old.opened
+    ensures within { IfSome cursor.new (λ k. IsPlaceIn R.rule board.old k) }
+    ensures next { IsNextOf R.rule mode left board.old place.old place.new search_state.old.opened
         search_state.new.opened result }
     ensures mated { IfSome result
-        (λ m. IsMatedAtLast R.rule plan (left - 1) (position_after R.rule board.old m)) }
+        (λ m. IsMatedAtLast R.rule mode (left - 1) (position_after R.rule board.old m)) }
 {
     if left == 0 {
         return None;
     }
-    if ends_with_mate(plan, left) {
+    if ends_with_mate(mode, left) {
         return next_mate::<R>(place, board);
     }
-    if may_skip(plan, left) {
-        return next_matable::<R>(known, place, board, search_state);
+    if may_skip(mode, left) {
+        return next_matable::<R>(cursor, place, board, search_state);
     }
-    next_move::<R>(known, place, board)
+    next_move::<R>(cursor, place, board)
 }
 
 /// Takes back the move of a closed frame, unless it is the lowest.
@@ -409,26 +408,26 @@ fn top_of<R: Rules, const N: usize>(frames: &ArrayVec<Frame<R>, N>) -> &Frame<R>
 /// Returns the next move to try from the top frame and moves its cursor. Changes the frame in place:
 /// popping and pushing it would copy it twice.
 fn next_of_top<R: Rules, const N: usize>(
-    plan: Plan,
+    mode: Mode,
     board: &mut Board,
     frames: &mut ArrayVec<Frame<R>, N>,
-    search_state: &mut SearchState<R>,
+    search_state: &mut SearchState,
 ) -> Option<Move>
     requires well_formed { IsWellFormed board.old }
     requires open { 0 < array_vec_len frames.old }
-    requires known { (below : List Level) (top : Level) → frames.old.items ≡ below ++ top ∷ []
-        → IfSome top.known (λ k. IsPlaceIn R.rule board.old k) }
+    requires cursor { (below : List Level) (top : Level) → frames.old.items ≡ below ++ top ∷ []
+        → IfSome top.cursor (λ k. IsPlaceIn R.rule board.old k) }
     ensures unchanged { board.new ≡ board.old }
-    ensures top { MovesOn R.rule plan board.old frames.old.items frames.new.items
+    ensures top { MovesOn R.rule mode board.old frames.old.items frames.new.items
         search_state.old.opened search_state.new.opened result }
     ensures len { array_vec_len frames.new ≡ array_vec_len frames.old }
 {
     let last = frames.len() - 1;
     let top = &mut frames.as_mut_slice()[last];
     next_of::<R>(
-        plan,
+        mode,
         top.left,
-        &mut top.known,
+        &mut top.cursor,
         &mut top.place,
         board,
         search_state,
@@ -440,11 +439,11 @@ fn next_of_top<R: Rules, const N: usize>(
 /// which the goal is out of reach.
 #[tactic(auto, using(crate::proofs::Walking::top_frame))]
 pub fn step<R: Rules, const N: usize, const PRUNES: bool>(
-    plan: Plan,
+    mode: Mode,
     half_moves: usize,
     board: &mut Board,
     frames: &mut ArrayVec<Frame<R>, N>,
-    search_state: &mut SearchState<R>,
+    search_state: &mut SearchState,
 ) -> bool
     requires well_formed { IsWellFormed board.old }
     requires room { half_moves < N }
@@ -453,16 +452,16 @@ pub fn step<R: Rules, const N: usize, const PRUNES: bool>(
         board.old }
     ensures steps { (p : Position) → IsWalking R.rule half_moves p (reverse frames.old.items)
         board.old
-        → Steps R.rule plan half_moves p (reverse frames.old.items) (reverse frames.new.items)
+        → Steps R.rule mode half_moves p (reverse frames.old.items) (reverse frames.new.items)
         board.new result }
     ensures counts { (p : Position) → IsWalking R.rule half_moves p (reverse frames.old.items)
         board.old
-        → CountsWalk (tries_all PRUNES plan.battle) R.rule plan half_moves p
+        → CountsWalk (tries_all PRUNES mode.battle) R.rule mode half_moves p
         (reverse frames.old.items) (reverse frames.new.items) search_state.old.opened
         search_state.new.opened }
 {
     let depth = frames.len() - 1;
-    let Some(by) = next_of_top::<R, N>(plan, board, frames, search_state) else {
+    let Some(by) = next_of_top::<R, N>(mode, board, frames, search_state) else {
         if let Some(top) = frames.pop() {
             step_back::<R>(depth, top, board);
         }
@@ -470,12 +469,12 @@ pub fn step<R: Rules, const N: usize, const PRUNES: bool>(
     };
     let top = top_of(frames);
     let left = top.left;
-    let known = top.line_ends;
-    let ends = line_ends_after::<R, PRUNES>(plan, left - 1, by, known, board);
+    let line_ends = top.line_ends;
+    let ends = line_ends_after::<R, PRUNES>(mode, left - 1, by, line_ends, board);
     if is_out_of_reach(ends) {
         return false;
     }
-    let emitted = enter::<R, N>(plan, left - 1, by, board, frames, search_state);
+    let emitted = enter::<R, N>(mode, left - 1, by, board, frames, search_state);
     keep_line_ends::<R, N>(ends, frames);
     emitted
 }

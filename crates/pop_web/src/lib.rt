@@ -1,4 +1,4 @@
-//! The engine of the web page: four calls that solve a text in memory.
+//! The engine of the web page: five calls that read or solve a text in memory.
 //!
 //! ```rust
 //! use pop_web::page::pops_report;
@@ -9,9 +9,9 @@
 //! let report = &output[..written];
 //! ```
 //!
-//! The interface is `pops_report`, `pops_tries`, `pops_list` and `pops_part`, which are exported by these names. They
-//! use a source and a sink in memory, `text_source` and `memory_sink`. `specs/Page.antt` defines what the calls return.
-//! No call allocates.
+//! The interface is `pops_report`, `pops_tries`, `pops_list`, `pops_faults` and `pops_part`, which are exported by these
+//! names. They use a source and a sink in memory, `text_source` and `memory_sink`. `specs/Page.antt` and
+//! `specs/ties/FaultsShown.antt` define what the calls return. No call allocates.
 #![tactic(auto)]
 
 pub mod memory_sink;

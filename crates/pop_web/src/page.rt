@@ -1,10 +1,13 @@
-//! The calls of the page: a text's report, with or without tries, the list of its parts, the solutions of one part.
+//! The calls of the page: a text's report, with or without tries, the lists of its parts and faults, the solutions of one
+//! part.
 ghost use Rattle.std.specs.Prelude.{◌≡◌, ◌<◌, ◌≤◌, length, take};
+ghost use Rattle.pop_web.specs.ties.FaultsShown.{ShowsFaults};
 ghost use Rattle.pop_web.specs.Page.{Lists, Shows, ShowsItems, ShowsParts, ShowsTries, depth_of as depth_by, status_number, outcome_number, part_of as part_by, phase_of as phase_by, room, too_small};
 
 use crate::memory_sink::MemorySink;
 use crate::text_source::TextSource;
 use pop_events::Phase;
+use pop_faults::list_faults;
 use pop_parts::{Outcome, PartRequest, list_parts, show_parts};
 use pop_run::{Choice, ItemWriter, Status, run_with};
 use pop_tries_run::{MOST_REFUTATIONS, TriesWriter};
@@ -93,6 +96,29 @@ pub extern "C" fn pops_list(
     let mut source = TextSource::new(input);
     let mut sink = MemorySink::<ROOM>::new();
     let ending = list_parts(depth_of(depth), &mut source, &mut sink);
+    *written = copy_out(&sink, output);
+    status_number(ending)
+}
+
+/// Writes the list of the input's faults to the front of `output`, one line per faulty item with the place where it is
+/// found, and its length in bytes to `written`.
+///
+/// The results are those that `pops_report` returns; the bytes are those that `pops-part --faults` writes.
+#[unsafe(no_mangle)]
+pub extern "C" fn pops_faults(input: &[u8], output: &mut [u8], written: &mut usize) -> u32
+    ensures shows { room ≤ length output.old → ShowsFaults input.now (take written.new output.new)
+        result }
+    ensures short { length output.old < room → (result ≡ too_small) × (written.new ≡ 0)
+        × (output.new ≡ output.old) }
+    ensures inside { written.new ≤ length output.new }
+    ensures room { length output.new ≡ length output.old }
+{
+    if output.len() < ROOM {
+        return refuse(written);
+    }
+    let mut source = TextSource::new(input);
+    let mut sink = MemorySink::<ROOM>::new();
+    let ending = list_faults(&mut source, &mut sink);
     *written = copy_out(&sink, output);
     status_number(ending)
 }

@@ -7,7 +7,7 @@ use Rattle.pop_parts.specs.declared.request.Outcome.TheVariants.{Shown, NoItem, 
 use Rattle.pops_part.specs.declared.program.Ending.{Ending}
 use Rattle.pops_part.specs.declared.program.Ending.TheVariants.{Done, Faulty, Refused, InputFailed, OutputFailed}
 
--- how a run that lists parts ends
+-- how a run that lists parts or faults ends
 abbrev pub ending_of_list : Status → Ending
 ending_of_list Sound = Done
 ending_of_list SomeFaulty = Faulty

@@ -1,2 +1,3 @@
 pub mod ExitStatus
 pub mod Runs
+pub mod ties

@@ -2,11 +2,8 @@
 use Rattle.std.specs.Prelude.{◌≡◌, ℕ, List, Option, Bool, true, false}
 use Rattle.pop_text.specs.Bytes.{Appends, Begins}
 use Rattle.pop_text.specs.Words.{Input}
-use Rattle.pop_run.specs.Report.{status}
 use Rattle.pop_run.specs.Run.{ReadsUpTo}
-use Rattle.pop_parts.specs.Parts.{list_text, outcome_of, text_of}
 use Rattle.pop_parts.specs.Runs.{ReadsItems}
-use Rattle.pops_part.specs.ExitStatus.{ending_of_list, ending_of_parts}
 use Rattle.pops_part.specs.declared.program.Ending.{Ending}
 use Rattle.pops_part.specs.declared.program.Ending.TheVariants.{OutputFailed}
 use Rattle.pop_events.specs.declared.event.Phase.{Phase}
@@ -16,7 +13,7 @@ use Rattle.pop_settings.specs.declared.pops_part.wanted.NamedParts.{NamedParts}
 use Rattle.pop_settings.specs.declared.pops_part.wanted.PhaseName.{PhaseName}
 use Rattle.pop_settings.specs.declared.pops_part.wanted.PhaseName.TheVariants.{Set as SetName, Play as PlayName}
 use Rattle.pop_settings.specs.declared.pops_part.wanted.Wanted.{Wanted}
-use Rattle.pop_settings.specs.declared.pops_part.wanted.Wanted.TheVariants.{List as ListOf, Parts}
+use Rattle.pop_settings.specs.declared.pops_part.wanted.Wanted.TheVariants.{List as ListOf, Parts, Faults}
 
 -- the phase with this name
 abbrev pub phase_named : PhaseName → Phase
@@ -33,25 +30,14 @@ request_of named = record {
   depth = named.depth;
 }
 
--- the text that is wanted: the list of the input's parts, or the text of the parts that are named
-abbrev pub text_wanted : Wanted → Input → List ℕ
-text_wanted (ListOf depth) input = list_text depth input
-text_wanted (Parts named) input = text_of (request_of named) input
+-- A run writes this text and ends in this way. If the sink fails, it writes a beginning of the text and returns
+-- `OutputFailed`.
+abbrev pub WritesText : List ℕ → Ending → Option (List ℕ) → Option (List ℕ) → Bool → Ending → Type 0
+WritesText text good before now false ending = Appends before now text × (ending ≡ good)
+WritesText text good before now true ending = Begins before now text × (ending ≡ OutputFailed)
 
--- how a run ends if its output can be written
-abbrev pub ending_wanted : Wanted → Input → Ending
-ending_wanted (ListOf depth) input = ending_of_list (status input)
-ending_wanted (Parts named) input = ending_of_parts (outcome_of (request_of named) input)
-
--- A run writes the text that is wanted and returns how it ends. If the sink fails, it writes a beginning of the text
--- and returns `OutputFailed`.
-abbrev pub Answers : Wanted → Input → Option (List ℕ) → Option (List ℕ) → Bool → Ending → Type 0
-Answers wanted input before now false ending = Appends before now (text_wanted wanted input)
-    × (ending ≡ ending_wanted wanted input)
-Answers wanted input before now true ending = Begins before now (text_wanted wanted input)
-    × (ending ≡ OutputFailed)
-
--- how far a run reads: for a list as far as a run of `pops`, for parts no further than their item
+-- how far a run reads: for the lists as far as a run of `pops`, for parts no further than their item
 abbrev pub ReadsWanted : Wanted → Input → List ℕ → Type 0
 ReadsWanted (ListOf depth) input taken = ReadsUpTo input taken
 ReadsWanted (Parts named) input taken = ReadsItems named.item input taken
+ReadsWanted Faults input taken = ReadsUpTo input taken

@@ -1,8 +1,9 @@
-//! The program `pops-part`: lists the parts of chess problems, or reports the solutions of some parts.
+//! The program `pops-part`: lists the parts of chess problems or their faults, or reports the solutions of some parts.
 //!
 //! ```sh
 //! pops-part --list mate.pop
 //! pops-part --item 1 --phase play --part 1..5 mate.pop
+//! pops-part --faults mate.pop
 //! ```
 //!
 //! `program` is the whole program except its streams; `main` passes it the words and the standard streams.

@@ -4,9 +4,11 @@ ghost use Rattle.pop_text.specs.Bytes.{greatest_count};
 ghost use Rattle.pop_run.specs.Run.{FailsOnce, has_grown, input_met, taken_of};
 ghost use Rattle.pop_settings.specs.pops_part.CommandLine.{HasDepth};
 ghost use Rattle.pops_part.specs.ExitStatus.{ending_flushed, ending_of_list, ending_of_parts, message_of, status_of};
-ghost use Rattle.pops_part.specs.Runs.{Answers, ReadsWanted, request_of, phase_named};
+ghost use Rattle.pops_part.specs.Runs.{ReadsWanted, request_of, phase_named};
+ghost use Rattle.pops_part.specs.ties.Answering.{Answers};
 
 use pop_events::Phase;
+use pop_faults::list_faults;
 use pop_parts::{Outcome, PartRequest, list_parts, show_parts};
 use pop_program::{on_input, refuse};
 use pop_run::Status;
@@ -38,7 +40,7 @@ pub enum Ending {
 /// |---|---|---|
 /// | 0 | the list is written and every problem is sound, or the parts are shown | nothing |
 /// | 1 | the list is written and some problem is faulty | nothing |
-/// | 2 | the words have neither form | the usage |
+/// | 2 | the words have none of the forms | the usage |
 /// | 2 | the item, phase or part doesn't exist, or the item is faulty | which of these |
 /// | 3 | the input device failed | nothing |
 /// | 3 | FILE can't be opened, also for lack of memory | `pops-part: cannot open the input file` |
@@ -59,7 +61,7 @@ pub fn program<T: Files + AllocGlobal, R: Read + Drop, W: Write + Drop, E: Write
         Ok(settings) => settings,
         Err(ArgFault::Usage) => return refuse(
             errors,
-            b"pops-part: usage: pops-part --list [--depth D] [FILE]\n       pops-part --item I --phase set|play --part A[..B] [--depth D] [FILE]\n",
+            b"pops-part: usage: pops-part --list [--depth D] [FILE]\n       pops-part --item I --phase set|play --part A[..B] [--depth D] [FILE]\n       pops-part --faults [FILE]\n",
             2,
         ),
         Err(ArgFault::Memory) => return refuse(errors, b"pops-part: out of memory\n", 4),
@@ -98,15 +100,15 @@ fn report<R: Read + Drop, W: Write + Drop, E: Write + Drop>(
 
 // Writes what is wanted of the source to the sink, and returns how the run ends.
 //
-// Writes exactly the list of the input or the text of the parts, or a beginning of it if the sink fails. At most one
+// Writes exactly the list of the input, of its parts or faults, or the text of the parts, or a beginning of it if the sink fails. At most one
 // source call and one sink call fail.
 fn answer<S: Source, W: Sink>(wanted: &Wanted, source: &mut S, sink: &mut W) -> Ending
     requires deep { HasDepth wanted.now }
     requires source { S.failures source.old < greatest_count }
     requires sink { W.failures sink.old < greatest_count }
     ensures headline { IfSome (S.remaining source.old) (λ had.
-        Answers wanted.now (input_met (has_grown (S.failures source.old) (S.failures source.new))
-        had (S.remaining source.new))
+        Answers wanted.now had (S.remaining source.new)
+        (has_grown (S.failures source.old) (S.failures source.new))
         (W.taken sink.old) (W.taken sink.new)
         (has_grown (W.failures sink.old) (W.failures sink.new)) result) }
     ensures reads { IfSome (S.remaining source.old) (λ had.
@@ -120,6 +122,7 @@ fn answer<S: Source, W: Sink>(wanted: &Wanted, source: &mut S, sink: &mut W) -> 
     match wanted {
         Wanted::List { depth } => ending_of_list(list_parts(*depth, source, sink)),
         Wanted::Parts(named) => ending_of_parts(show_parts(&request_of(named), source, sink)),
+        Wanted::Faults => ending_of_list(list_faults(source, sink)),
     }
 }
 
@@ -158,7 +161,7 @@ fn ending_after_flush(ending: Ending, is_flushed: bool) -> Ending
     }
 }
 
-// Returns how a run that lists parts ends.
+// Returns how a run that lists parts or faults ends.
 fn ending_of_list(status: Status) -> Ending
     ensures { result ≡ ending_of_list status }
 {

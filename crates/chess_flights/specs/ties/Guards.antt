@@ -1,7 +1,9 @@
 -- What men reach over hurdles (own).
-use Rattle.std.specs.Prelude.{◌≡◌, ◌<◌, ◌==◌, ◌&&◌, ℕ, Bool, true, false, not, List, Option}
+use Rattle.std.specs.Prelude.{◌≡◌, ◌<◌, ◌==◌, ◌&&◌, ℕ, Bool, true, not, List, Option}
 use Rattle.std.specs.Int.{bit_at}
 use Rattle.chess_core.specs.Steps.{gait_of, is_hopper, is_leaper as is_leaping}
+use Rattle.chess_core.specs.declared.man.Gait.{Gait}
+use Rattle.chess_core.specs.declared.man.Gait.TheVariants.{Leaper, Rider, Hopper}
 use Rattle.chess_core.specs.declared.man.Kind.{Kind}
 use Rattle.chess_core.specs.declared.man.Man.{Man}
 use Rattle.chess_flights.specs.declared.attackers.Attackers.{Attackers}
@@ -25,10 +27,11 @@ is_rider k = not (is_leaping (gait_of k)) && not (is_hopper (gait_of k))
 abbrev pub is_leaper : Kind → Bool
 is_leaper k = is_leaping (gait_of k)
 
--- men of this kind are leapers if b, else riders
-abbrev pub moves_as : Bool → Kind → Bool
-moves_as true = is_leaper
-moves_as false = is_rider
+-- men of this kind have this gait
+abbrev pub moves_as : Gait → Kind → Bool
+moves_as Leaper = is_leaper
+moves_as Rider = is_rider
+moves_as Hopper = λ k. is_hopper (gait_of k)
 
 -- x on s could reach a square of the region on some board
 pub record IsNear (x : Man) (s region : ℕ) : Type 0 where

@@ -115,10 +115,10 @@ IsKnownBetween men p x m k Impossible = NobodyComes men (other p.turn) m.to k
 IsKnownBetween men p x m k Unknown = ⊤
 
 -- x, no pawn (which might be captured en passant) and no fairy man, gives check from b to the king on k,
--- and nobody but this king takes it
-pub record IsUntaken (occupied takers : ℕ) (x : Man) (b k : ℕ) : Type 0 where
+-- and nobody but this king captures it
+pub record IsUncaptured (occupied capturers : ℕ) (x : Man) (b k : ℕ) : Type 0 where
   pub piece : same_kind x.kind Pawn ≡ false
   pub orthodox : is_fairy x.kind ≡ false
-  pub untaken : (s : ℕ) → s < 64 → (bit_at takers s == 1) ≡ true → is_square (Some k) s ≡ true
+  pub uncaptured : (s : ℕ) → s < 64 → (bit_at capturers s == 1) ≡ true → is_square (Some k) s ≡ true
   pub check : (men : List (Option Man)) → occupied ≡ occupied_squares men
       → reaches_as men x.colour x.kind b k ≡ true

@@ -14,7 +14,7 @@ use Rattle.chess_reach.specs.declared.guards.Guard.{Guard}
 use Rattle.chess_reach.specs.ties.Whereabouts.{has}
 use Rattle.chess_reach.specs.ties.Ways.{CanBe, IsChain, nowhere}
 
--- a place that isn't used
+-- a post that isn't used
 abbrev pub unused : Guard
 unused = record { kind = King; from = 0; chain = [] }
 

@@ -10,23 +10,23 @@ use Rattle.chess_core.specs.declared.man.Man.{Man}
 use Rattle.chess_reach.specs.Plans.{Arrives, End, Ends, may_capture}
 use Rattle.chess_reach.specs.Reach.{guards}
 use Rattle.chess_reach.specs.declared.guards.Guard.{Guard}
-use Rattle.chess_reach.specs.declared.hold.Place.{Place}
+use Rattle.chess_reach.specs.declared.hold.Post.{Post}
 use Rattle.chess_reach.specs.declared.hold.Quest.{Quest}
 use Rattle.chess_rules.specs.Play.{rebirth}
 use Rattle.chess_reach.specs.ties.Guards.{AreBlocks, AreGuards, CanEnd, StaysAway, guard_at, is_blocker}
 use Rattle.chess_reach.specs.ties.Whereabouts.{has}
 use Rattle.chess_reach.specs.ties.Ways.{IsChain, IsUsual, TakesOn, nowhere}
 
--- the place with this number
-abbrev pub place_at : List Place → ℕ → Place
-place_at ps i = slice_index_or ps i (record { squares = nowhere; moves = 0 })
+-- the post with this number
+abbrev pub post_at : List Post → ℕ → Post
+post_at ps i = slice_index_or ps i (record { squares = nowhere; moves = 0 })
 
 -- the end of the guard with this number
 abbrev pub end_at : Quest → Ends → ℕ → End
 end_at q ends i = ends (guard_at q.guards i).from
 
--- the end is in the place
-pub record IsIn (g : Guard) (p : Place) (e : End) : Type 0 where
+-- the end is in the post
+pub record IsIn (g : Guard) (p : Post) (e : End) : Type 0 where
   pub on : has g.kind e.kind e.square p.squares ≡ true
   pub paid : p.moves ≤ e.moves
 
@@ -67,22 +67,22 @@ blocks_in q men ends w s =
 unfoldable pub blocked : Quest → List (Option Man) → Ends → ℕ → ℕ
 blocked q men ends w = sum_by (λ s. if blocks_in q men ends w s then (ends s).moves else 0) squares
 
--- the moves of the guards' ends, less the moves of their places
-unfoldable pub unpaid : Quest → List Place → Ends → ℕ
-unpaid q places ends =
-    sum_by (λ i. (end_at q ends i).moves - (place_at places i).moves) (range_with_len 0 q.count)
+-- the moves of the guards' ends, less the moves of their posts
+unfoldable pub unpaid : Quest → List Post → Ends → ℕ
+unpaid q posts ends =
+    sum_by (λ i. (end_at q ends i).moves - (post_at posts i).moves) (range_with_len 0 q.count)
 
--- guards end in their places, with at most `ours` moves beyond those, and hold the squares of w with
+-- guards end in their posts, with at most `ours` moves beyond those, and hold the squares of w with
 -- blockers that spend at most `theirs` moves
-pub record Holds (q : Quest) (men : List (Option Man)) (places : List Place) (w ours theirs : ℕ) (ends : Ends) : Type 0 where
+pub record Holds (q : Quest) (men : List (Option Man)) (posts : List Post) (w ours theirs : ℕ) (ends : Ends) : Type 0 where
   pub guards : (i : ℕ) → i < q.count → CanEnd (guard_at q.guards i) (end_at q ends i)
   pub away : (i : ℕ) → i < q.count
       → StaysAway q.ending.are_reborn (guard_at q.guards i) (end_at q ends i)
   pub blockers : (s : ℕ) → s < 64 → is_blocker men (other q.colour) s ≡ true
       → (bit_at (slice_index_or q.blockable (ends s).moves 0) (ends s).square == 1) ≡ true
   pub few : (s : ℕ) → s < 64 → is_blocker men (other q.colour) s ≡ true → (ends s).moves < 9
-  pub inside : (i : ℕ) → i < q.count → IsIn (guard_at q.guards i) (place_at places i) (end_at q ends i)
-  pub paid : unpaid q places ends ≤ ours
+  pub inside : (i : ℕ) → i < q.count → IsIn (guard_at q.guards i) (post_at posts i) (end_at q ends i)
+  pub paid : unpaid q posts ends ≤ ours
   pub blocking : blocked q men ends w ≤ theirs
   pub holds : (t : ℕ) → t < 64 → (bit_at w t == 1) ≡ true → IsHeld q men ends t
 

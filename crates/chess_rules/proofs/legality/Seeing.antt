@@ -50,10 +50,16 @@ pub record IsCapture (men : List (Option Man)) (a : ℕ) (o : Option ℕ) (b : �
 pub no_man : (o : Option Man) (c : Colour) (k : Kind) → is_of_colour o c ≡ false → is_man o c k ≡ false
 no_man o c k h = grind (arith, and_left)
 
+-- a test that only enemies meet, on each square
+met_now : (men : List (Option Man)) (a : ℕ) (o : Option ℕ) (b : ℕ) (z : Man) (c : Colour) (q : ℕ) (test : Option Man → Bool) → IsCapture men a o b z c
+    → ((x : Option Man) → is_of_colour x (other c) ≡ false → test x ≡ false)
+    → (test (man_on men q) && not (is_square o q)) ≡ test (man_on (gone_to men a o b z) q)
+met_now men a o b z c q test i none =
+    grind (arith, cases_eq q b, there_now, left_now, kept_now, cases_Bool (is_square o q), cases_Bool (is_square (Some a) q), none, eqb-true a q, false≢true)
+
 enemy_now : (men : List (Option Man)) (a : ℕ) (o : Option ℕ) (b : ℕ) (z : Man) (c : Colour) (k : Kind) (q : ℕ) → IsCapture men a o b z c
     → (is_man (man_on men q) (other c) k && not (is_square o q)) ≡ is_man (man_on (gone_to men a o b z) q) (other c) k
-enemy_now men a o b z c k q i =
-    grind (arith, cases_eq q b, there_now, left_now, kept_now, cases_Bool (is_square o q), cases_Bool (is_square (Some a) q), no_man, eqb-true a q, false≢true)
+enemy_now men a o b z c k q i = met_now men a o b z c q (λ x. is_man x (other c) k) i (λ x. no_man x (other c) k)
 
 -- the bitboards after a move describe the men after it
 pub seen_after : (men : List (Option Man)) (a : ℕ) (o : Option ℕ) (b : ℕ) (z : Man) (c : Colour) → IsCapture men a o b z c

@@ -4,15 +4,15 @@ ghost use Rattle.chess_core.specs.Position.{Position};
 ghost use Rattle.chess_core.specs.WellFormed.{IsWellFormed};
 ghost use Rattle.chess_rules.specs.ties.Places.{IsCursorIn, IsNextMet, cursor_onto, first_met, met_after, met_between, place_of};
 
+use crate::listing_moves::move_place::MovePlace;
 use crate::listing_moves::move_test::{MoveTest, TargetCache, next_met};
-use crate::listing_moves::moves::Moves;
 use crate::listing_moves::triples::{TRIPLES, move_at};
 use chess_attacks::Rules;
 use chess_core::{Board, Move};
 use std::marker::{Model, PhantomData};
 
-/// A cursor over the moves of one position that meet a test. It is a place in the order of moves, like
-/// `Moves`, and also keeps the test, with what it knows of the position, and the candidate squares of its
+/// A cursor over the moves of one position that meet a test. Like `Moves` it is a place in the order of
+/// moves; it also keeps the test, with what it knows of the position, and the candidate squares of its
 /// current origin.
 #[derive_where(Clone, Copy; T)]
 pub struct Cursor<R, T> {
@@ -63,14 +63,14 @@ impl<R: Rules, T: MoveTest> Cursor<R, T> {
     }
 
     /// Returns the cursor's place, without what the cursor keeps for its position.
-    pub fn place(&self) -> Moves<R>
+    pub fn place(&self) -> MovePlace
         ensures { result ≡ self.now.place }
     {
-        Moves::at(self.number)
+        MovePlace::at(self.number)
     }
 
     /// Moves the cursor to another place in the order of moves of its position.
-    pub fn go_to(&mut self, place: Moves<R>)
+    pub fn go_to(&mut self, place: MovePlace)
         ensures { self.new ≡ record self.old { place = place } }
     {
         self.number = place.number();
@@ -110,7 +110,7 @@ impl<R: Rules, T: MoveTest> Cursor<R, T> {
     /// there is none it returns `None` and the cursor stays. The cursor must belong to the board's position.
     /// The board is unchanged.
     #[tactic(auto, using(crate::proofs::listing_moves::Between::until))]
-    pub fn next_until(&mut self, end: Moves<R>, board: &mut Board) -> Option<Move>
+    pub fn next_until(&mut self, end: MovePlace, board: &mut Board) -> Option<Move>
         requires well_formed { IsWellFormed board.old }
         requires place { IsCursorIn T.fits T.test R.rule board.old self.old }
         ensures place { self.new ≡ record self.old {

@@ -13,8 +13,8 @@ use crate::legality::evasions::{evasion_squares, evasions_from};
 use crate::legality::legal::is_legal;
 use crate::legality::targets::arrivals;
 use crate::listing_moves::cursor::Cursor;
+use crate::listing_moves::move_place::MovePlace;
 use crate::listing_moves::move_test::MoveTest;
-use crate::listing_moves::moves::Moves;
 use crate::listing_moves::square_filter::{NextKept, SquareFilter, first_kept, some_removed};
 use crate::listing_moves::triples::{TRIPLES, move_at};
 use chess_attacks::Rules;
@@ -104,13 +104,13 @@ impl<R: Rules> Cursor<R, LegalityMasks> {
         let mut skipped = 0;
         let number = first_kept::<R, S>(board, known, square_filter, start, &mut skipped);
         if number < TRIPLES {
-            self.go_to(Moves::at(number + 1));
+            self.go_to(MovePlace::at(number + 1));
             return NextKept {
                 found: Some(move_at(number)),
                 skipped,
             };
         }
-        self.go_to(Moves::at(TRIPLES));
+        self.go_to(MovePlace::at(TRIPLES));
         NextKept {
             found: None,
             skipped,

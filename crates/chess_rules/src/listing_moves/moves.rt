@@ -1,22 +1,21 @@
 //! Lists the legal moves one by one, and tests for mate and stalemate.
-ghost use Rattle.std.specs.Prelude.{◌==◌, ◌≡◌, ℕ, ◌-◌, ◌<◌, ◌∷◌, [], IfSome, MatchOption, not, true};
+ghost use Rattle.std.specs.Prelude.{◌≡◌, ◌<◌, ◌∷◌, [], IfSome, MatchOption, not, true};
 ghost use Rattle.std.specs.List.{slice_get};
 ghost use Rattle.chess_core.specs.WellFormed.{IsWellFormed};
 ghost use Rattle.chess_rules.specs.Legal.{is_legal, is_mate, is_nil, is_stalemate, moves};
-ghost use Rattle.chess_rules.specs.ties.Places.{first_after, moves_after, moves_between, place_of};
+ghost use Rattle.chess_rules.specs.ties.Places.{first_after, moves_after, place_of};
 
-use crate::legality::single_move::is_single_move_legal;
 use crate::listing_moves::legal_moves::LegalCursor;
-use crate::listing_moves::triples::{TRIPLES, move_at};
+use crate::listing_moves::move_place::MovePlace;
 use chess_attacks::{Rules, in_check};
 use chess_core::{Board, Move};
 use std::marker::{Model, PhantomData};
 
-/// A cursor over the legal moves: the number of triples of origin, arrival and promotion before it, from 0
-/// to `TRIPLES`, in the order of moves. Contracts see this number.
+/// A cursor over the legal moves under the rules `R`: a place in the order of moves, whose number contracts
+/// see.
 #[derive_where(Clone, Copy)]
 pub struct Moves<R> {
-    number: u16,
+    place: MovePlace,
     rules: PhantomData<R>,
 }
 
@@ -25,18 +24,9 @@ impl<R> Model for Moves<R> {
 
     ghost Value = { ℕ };
 
-    ghost view = { λ m. m.number };
+    ghost view = { λ m. m.place };
 
-    ghost inverse = { λ n. record { number = n; rules = record {} } };
-}
-
-impl<R> Default for Moves<R> {
-    // Returns `Moves::start()`.
-    fn default() -> Moves<R>
-        ensures { result ≡ 0 }
-    {
-        Moves::start()
-    }
+    ghost inverse = { λ n. record { place = n; rules = record {} } };
 }
 
 impl<R> Moves<R> {
@@ -45,41 +35,7 @@ impl<R> Moves<R> {
         ensures { result ≡ 0 }
     {
         Moves {
-            number: 0,
-            rules: PhantomData,
-        }
-    }
-
-    /// Returns the cursor after the first `number` triples. From `TRIPLES` on it is at the end.
-    pub fn at(number: u16) -> Moves<R>
-        ensures { result ≡ number }
-    {
-        Moves {
-            number,
-            rules: PhantomData,
-        }
-    }
-
-    /// Returns the number of triples before the cursor.
-    pub fn number(self) -> u16
-        ensures { result ≡ self }
-    {
-        self.number
-    }
-
-    /// Returns whether both cursors are at the same place.
-    pub fn is(self, place: Moves<R>) -> bool
-        ensures { result ≡ (self == place) }
-    {
-        self.number == place.number
-    }
-
-    /// Returns the cursor one triple earlier; the start stays the start.
-    pub fn previous(self) -> Moves<R>
-        ensures { result ≡ self - 1 }
-    {
-        Moves {
-            number: self.number.saturating_sub(1),
+            place: MovePlace::start(),
             rules: PhantomData,
         }
     }
@@ -100,31 +56,10 @@ impl<R: Rules> Moves<R> {
         ensures board { board.new ≡ board.old }
     {
         let mut moves = LegalCursor::<R>::of(board);
-        moves.go_to(*self);
+        moves.go_to(self.place);
         let found = moves.next(board);
-        *self = moves.place();
+        self.place = moves.place();
         found
-    }
-
-    /// Returns the last triple before the cursor, if it is a legal move in the board's position.
-    /// Tests only this move. The board is unchanged.
-    #[tactic(auto, using(crate::proofs::listing_moves::Between::standing))]
-    pub fn legal_move(self, board: &mut Board) -> Option<Move>
-        requires { IsWellFormed board.old }
-        ensures rest { MatchOption result (moves_between R.rule board.old (self - 1) self ≡ [])
-            (λ m. moves_between R.rule board.old (self - 1) self ≡ m ∷ []) }
-        ensures legal { IfSome result (λ m. is_legal R.rule board.old m ≡ true) }
-        ensures board { board.new ≡ board.old }
-    {
-        if self.number == 0 || self.number > TRIPLES {
-            return None;
-        }
-        let m = move_at(self.number - 1);
-        if is_single_move_legal::<R>(board, m) {
-            Some(m)
-        } else {
-            None
-        }
     }
 }
 

@@ -5,8 +5,7 @@ ghost use Rattle.chess_rules.specs.ties.Places.{HasNoMoveFrom, NamesMove, all_tr
 
 use crate::legality::targets::is_promoting;
 use chess_attacks::words::next_bit;
-use chess_core::man::PROMOTIONS;
-use chess_core::{Board, Kind, Move, Square, Squares};
+use chess_core::{Board, Kind, Move, PROMOTIONS, Square, Squares};
 
 // The number of triples with the same origin and arrival: one for each promotion.
 pub(crate) const PER_ARRIVAL: u16 = PROMOTIONS as u16;

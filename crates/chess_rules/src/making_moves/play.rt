@@ -9,8 +9,7 @@ ghost use Rattle.chess_core.specs.WellFormed.{IsWellFormed};
 ghost use Rattle.chess_rules.specs.Legal.{is_pseudo_legal};
 
 use chess_attacks::Rules;
-pub use chess_core::undo::Undo;
-use chess_core::{Board, Colour, Kind, Man, Move, Square, Unmoved};
+use chess_core::{Board, Colour, Kind, Man, Move, Square, Undo, Unmoved};
 
 /// Returns the man that arrives: the man itself, or the piece to which it promotes.
 pub fn arriving_man(man: Man, promo: Option<Kind>) -> Man

@@ -7,9 +7,9 @@ ghost use Rattle.chess_rules.specs.ties.Playing.{CanCastle};
 ghost use Rattle.chess_rules.specs.ties.Undoing.{CanReturn, before_by, leaving_man, returned_men, return_square, uncastled_men};
 ghost use Rattle.chess_core.specs.WellFormed.{IsWellFormed};
 
-use crate::making_moves::play::{Undo, castle, corner, halfway, is_castling, put_at, remove_at};
+use crate::making_moves::play::{castle, corner, halfway, is_castling, put_at, remove_at};
 use chess_attacks::Rules;
-use chess_core::{Board, Kind, Man, Move, Square};
+use chess_core::{Board, Kind, Man, Move, Square, Undo};
 
 // Returns the man that left the origin: the pawn if it promoted.
 fn leaving_man(man: Man, promo: Option<Kind>) -> Man
@@ -88,8 +88,8 @@ fn take_back<R: Rules>(board: &mut Board, m: Move, undo: Undo)
     ensures { RestoresPosition R.rule board.old m undo board.new }
 {
     take_reborn_off(board, &undo);
-    let arrival = Square::numbered(m.to.index());
-    if let Some(arrived) = board.man_at(arrival) {
+    m.to.show_below_64();
+    if let Some(arrived) = board.man_at(m.to) {
         go_back(board, leaving_man(arrived, m.promo), &m, &undo);
     }
 }

@@ -17,6 +17,8 @@ use Rattle.chess_flights.specs.declared.attackers.Attackers.{Attackers}
 use Rattle.chess_threats.specs.declared.king_zone.KingZone.{KingZone}
 use Rattle.chess_threats.specs.declared.guards_without.Guards.{Guards}
 use Rattle.chess_threats.specs.declared.risk.Risk.{Risk}
+use Rattle.chess_threats.specs.declared.risk.RiskPart.{RiskPart}
+use Rattle.chess_threats.specs.declared.risk.RiskPart.TheVariants.{Critical, Lines}
 use Rattle.chess_threats.specs.declared.king_attack.KingAttack.{KingAttack}
 use Rattle.chess_threats.specs.declared.king_zone.HopTargets.{HopTargets}
 use Rattle.chess_threats.specs.declared.steps.StepCache.{StepCache}
@@ -201,6 +203,11 @@ pub record IsCheckWord (d k : ℕ) (x : Man) (w : ℕ) : Type 0 where
   pub inside : is_hopper (gait_of x.kind) ≡ false → (t : ℕ) → t < 64
       → reached_over d (record { colour = other x.colour; kind = x.kind }) k t ≡ true
       → (bit_at w t == 1) ≡ true
+
+-- the squares of a risk: its critical squares, or its lines
+abbrev pub part_of : RiskPart → Risk → ℕ
+part_of Critical r = r.critical
+part_of Lines r = r.lines
 
 -- the defender leaves a, which is a hurdle on none of the lines, and goes to b, which isn't critical
 pub record IsOff (d : ℕ) (r : Risk) (a b : ℕ) : Type 0 where

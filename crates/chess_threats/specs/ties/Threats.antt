@@ -25,7 +25,7 @@ pub record AreThreatsOf (rule : RuleSet) (p : Position) (t : ThreatsSeen) : Type
   pub whole : IsWhole t.king_attack
 
 -- if x makes a pawn's double step, no enemy pawn could come to the square between
-pub record IsPassing (p : Position) (x : Man) (m : Move) : Type 0 where
+pub record IsUncontested (p : Position) (x : Man) (m : Move) : Type 0 where
   pub freely : is_double_step x m ≡ true → (q : Position) (s : ℕ) (z : Man) → s < 64
       → halfway m < 64 → man_on p.men s ≡ Some z → z.colour ≡ other x.colour
       → same_kind z.kind Pawn ≡ true → may_arrive q z s (halfway m) ≡ false
@@ -34,7 +34,7 @@ pub record IsPassing (p : Position) (x : Man) (m : Move) : Type 0 where
 pub record IsPlainMove (p : Position) (x : Man) (m : Move) : Type 0 where
   pub castling : is_castling x m ≡ false
   pub captures : (s : ℕ) → capture_square p x m ≡ Some s → s ≡ m.to
-  pub passing : IsPassing p x m
+  pub uncontested : IsUncontested p x m
 
 -- the move of x from s to each square outside w is plain
 pub record ArePlain (p : Position) (x : Man) (s w : ℕ) : Type 0 where

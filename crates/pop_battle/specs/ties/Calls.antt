@@ -17,11 +17,11 @@ use Rattle.pop_battle.specs.ties.Values.{value}
 use Rattle.std.specs.Prelude.{◌≡◌, ◌+◌, ◌≤◌, ℕ, Bool, true, List, [], ◌∷◌, Option, Some, IfSome, MatchOption}
 
 -- the call returned the first of the moves `untried` of p, if any, and `left` are the moves after it; the
--- board is p as before, and what is known belongs to p
-pub record Finds (rule : RuleSet) (p board : Position) (known : Option LegalPlace)
+-- board is p as before, and the cursor belongs to p
+pub record Finds (rule : RuleSet) (p board : Position) (cursor : Option LegalPlace)
     (found : Option Move) (untried left : List Move) : Type 0 where
   pub unchanged : board ≡ p
-  pub within : IfSome known (IsPlaceIn rule p)
+  pub within : IfSome cursor (IsPlaceIn rule p)
   pub next : MatchOption found (untried ≡ [])
       (λ m. (untried ≡ m ∷ left) × (is_legal rule p m ≡ true))
 

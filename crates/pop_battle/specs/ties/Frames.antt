@@ -35,9 +35,9 @@ pub record Order : Type 0 where
 abbrev pub unordered : Order
 unordered = record { killer = 0; earlier = 0; early = NoMoves }
 
--- a frame: the cursor up to which the moves of its position have been tried, the move that led there and
+-- a frame: the place up to which the moves of its position have been tried, the move that led there and
 -- what takes it back, and the half-moves to try there; in a test the order of the moves and the stage of
--- the cursor; what is known of the position's legal moves; and in help play what is known of the lines from it
+-- the place; the cursor over the position's legal moves; and in help play what is known of the lines from it
 pub record Frame : Type 0 where
   pub place : ℕ
   pub by : Move
@@ -45,7 +45,7 @@ pub record Frame : Type 0 where
   pub left : ℕ
   pub order : Order
   pub move_stage : MoveStage
-  pub known : Option LegalPlace
+  pub cursor : Option LegalPlace
   pub line_ends : Option LineEnds
 
 -- a frame of no position
@@ -57,17 +57,17 @@ no_frame = record {
   left = 0;
   order = unordered;
   move_stage = Others;
-  known = None;
+  cursor = None;
   line_ends = None;
 }
 
--- the frame with its cursor moved
+-- the frame with its place moved
 abbrev pub moved : Frame → ℕ → Frame
 moved f place = record f { place = place }
 
--- the frame with what is now known of its position's moves
+-- the frame with this cursor over its position's moves
 abbrev pub learned : Frame → Option LegalPlace → Frame
-learned f known = record f { known = known }
+learned f cursor = record f { cursor = cursor }
 
 -- the position of the top frame, if the lowest is at p; frames are listed from the top down
 unfoldable pub position : RuleSet → Position → List Frame → Position
@@ -127,11 +127,11 @@ moves_later rule p order Others = []
 abbrev pub moves_ahead : RuleSet → Position → Order → MoveStage → ℕ → List Move
 moves_ahead rule p order s place = moves_here rule p order s place ++ moves_later rule p order s
 
--- the moves that a test has still to try; while nothing is known of the moves, only the killer has been
+-- the moves that a test has still to try; while the moves aren't listed, only the killer has been
 -- tested
 abbrev pub moves_unlooked : RuleSet → Position → Order → MoveStage → Option LegalPlace → List Move
 moves_unlooked rule p order s None = moves_later rule p order Killer
-moves_unlooked rule p order s (Some known) = moves_ahead rule p order s known.place
+moves_unlooked rule p order s (Some cursor) = moves_ahead rule p order s cursor.place
 
 -- the number of stages after this one
 abbrev pub move_stages_after : MoveStage → ℕ
@@ -167,12 +167,6 @@ unfoldable pub work_from : RuleSet → ℕ → Position → ℕ
 work_from rule zero p = 1
 work_from rule (suc h) p =
     1 + sum_by (λ m. 1 + work_from rule h (position_after rule p m)) (legal_moves rule p)
-
--- the most turns for the moves after a place
-unfoldable pub work_after : RuleSet → ℕ → Position → ℕ → ℕ
-work_after rule zero p place = 0
-work_after rule (suc h) p place =
-    sum_by (λ m. 1 + work_from rule h (position_after rule p m)) (moves_after rule p place)
 
 -- the most turns for these moves
 unfoldable pub work_among : RuleSet → ℕ → Position → List Move → ℕ
@@ -240,18 +234,18 @@ IsDescending [] = Unit {0}
 IsDescending (f ∷ []) = 0 < f.left
 IsDescending (f ∷ (g ∷ below)) = (0 < f.left) × (f.left + 1 ≡ g.left) × IsDescending (g ∷ below)
 
--- what each frame knows belongs to its own position
-unfoldable pub AreKnown : RuleSet → Position → List Frame → Type 0
-AreKnown rule p [] = Unit {0}
-AreKnown rule p (f ∷ below) = IfSome f.known (IsPlaceIn rule (position rule p (f ∷ below)))
-    × AreKnown rule p below
+-- each frame's cursor belongs to its own position
+unfoldable pub AreCursors : RuleSet → Position → List Frame → Type 0
+AreCursors rule p [] = Unit {0}
+AreCursors rule p (f ∷ below) = IfSome f.cursor (IsPlaceIn rule (position rule p (f ∷ below)))
+    × AreCursors rule p below
 
 -- the board has the position of the top frame of a test
 pub record IsTesting (rule : RuleSet) (p : Position) (frames : List Frame) (board : Position) : Type
     0 where
   pub linked : IsLinked rule p frames
   pub cut : IsDescending frames
-  pub known : AreKnown rule p frames
+  pub cursors : AreCursors rule p frames
   pub sound : IsWellFormed board
   pub board_at : board ≡ position rule p frames
 
@@ -306,30 +300,30 @@ opened_frame by undo left = record {
   left = left;
   order = unordered;
   move_stage = Others;
-  known = None;
+  cursor = None;
   line_ends = None;
 }
 
 -- the frame of a position that a move of a test has reached: its killer is tried first
 abbrev pub tested_frame : Order → Move → Undo → ℕ → Option LegalPlace → Frame
-tested_frame order by undo left known = record {
+tested_frame order by undo left cursor = record {
   place = order.killer - 1;
   by = by;
   undo = undo;
   left = left;
   order = order;
   move_stage = Killer;
-  known = known;
+  cursor = cursor;
   line_ends = None;
 }
 
--- one frame of a test was added, which knows at most its own position
+-- one frame of a test was added, whose cursor belongs to its own position
 pub record IsOpenedOn (rule : RuleSet) (p : Position) (old new : List Frame) (by : Move)
     (undo : Undo) (left : ℕ) : Type 0 where
   pub order : Order
-  pub known : Option LegalPlace
-  pub within : IfSome known (IsPlaceIn rule p)
-  pub added : new ≡ old ++ tested_frame order by undo left known ∷ []
+  pub cursor : Option LegalPlace
+  pub within : IfSome cursor (IsPlaceIn rule p)
+  pub added : new ≡ old ++ tested_frame order by undo left cursor ∷ []
 
 -- the half-moves left at the top frame
 abbrev pub left_at_top : List Frame → ℕ

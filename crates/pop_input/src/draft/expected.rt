@@ -11,8 +11,7 @@ use crate::fault_kind::FaultKind;
 use crate::names::ExpectedValue;
 use crate::short_word::ShortWord;
 use crate::values::{limit_of, square_of};
-use chess_core::man::Unmoved;
-use chess_core::square::Square;
+use chess_core::{Square, Unmoved};
 
 impl Draft {
     /// Reads the number after MaxSolutions.

@@ -14,8 +14,7 @@ use crate::fault_kind::FaultKind;
 use crate::names::colour_of;
 use crate::short_word::ShortWord;
 use crate::values::{is_digit, squares_named};
-use chess_core::man::{Kind, Man};
-use chess_core::square::Square;
+use chess_core::{Kind, Man, Square};
 
 impl Draft {
     /// Reads a colour, or the letter of a kind and the squares of its men, and returns the word's fault, if any.

@@ -19,7 +19,7 @@ use Rattle.pop_battle.specs.Walks.{walk_count}
 -- what contracts see of a search of a part: the problem, the phase, the part's first moves, the events
 -- still to come, the position on the board, the frames in use, the positions tried so far, up to the
 -- greatest u64, and the moves that last decided tests
-pub record PartSeen (R : Type 0) : Type 0 where
+pub record PartSeen : Type 0 where
   pub problem : Posed
   pub phase : Phase
   pub front : Path
@@ -27,7 +27,7 @@ pub record PartSeen (R : Type 0) : Type 0 where
   pub board : Position
   pub depth : ℕ
   pub opened : ℕ
-  pub killers : Killers R
+  pub killers : Killers
 
 -- what contracts see of the parts still to come: the problem, the phase, and the first moves of each part
 pub record RemainingSeen : Type 0 where

@@ -12,13 +12,14 @@ use Rattle.pop_settings.specs.declared.arg_fault.ArgFault.TheVariants.{Usage, Me
 use Rattle.pop_settings.specs.declared.pops_part.wanted.PhaseName.{PhaseName}
 use Rattle.pop_settings.specs.declared.pops_part.wanted.Settings.{Settings}
 use Rattle.pop_settings.specs.declared.pops_part.wanted.Wanted.{Wanted}
-use Rattle.pop_settings.specs.declared.pops_part.wanted.Wanted.TheVariants.{List as ListOf, Parts}
+use Rattle.pop_settings.specs.declared.pops_part.wanted.Wanted.TheVariants.{List as ListOf, Parts, Faults}
 use Rattle.pop_settings.specs.declared.pops_part.values.Range.{Range}
 
--- pops-part [--list] [--depth D] [--item I] [--phase P] [--part A[..B]] [FILE]
+-- pops-part [--list] [--faults] [--depth D] [--item I] [--phase P] [--part A[..B]] [FILE]
 unfoldable pub command : App
-command = with_rule (with_rule (with_rule (with_rule (with_rule (with_rule
-    (new_app (codes "pops-part")) (flag (codes "list"))) (option_with_value (codes "depth")))
+command = with_rule (with_rule (with_rule (with_rule (with_rule (with_rule (with_rule
+    (new_app (codes "pops-part")) (flag (codes "list"))) (flag (codes "faults")))
+    (option_with_value (codes "depth")))
     (option_with_value (codes "item")))
     (option_with_value (codes "phase"))) (option_with_value (codes "part")))
     (new_rule (codes "file"))
@@ -53,14 +54,29 @@ parts_wanted (Some item) (Some phase) (Some range) (Some depth) = Some (Parts (r
 }))
 parts_wanted _ _ _ _ = None
 
--- what a command line wants, by clap's matches: none if it has neither form
-unfoldable pub wanted_by : List Row → Option Wanted
-wanted_by rows = if is_set (codes "list") rows
+-- what the options about parts want: none if they have neither form
+unfoldable pub parts_by : List Row → Option Wanted
+parts_by rows = if is_set (codes "list") rows
     then list_wanted (has_others rows) (depth_said (first_of (codes "depth") rows))
     else parts_wanted (option_and_then number_in (first_of (codes "item") rows))
     (option_and_then phase_in (first_of (codes "phase") rows))
     (option_and_then range_in (first_of (codes "part") rows))
     (depth_said (first_of (codes "depth") rows))
+
+-- whether an option about parts is there
+abbrev pub has_options : List Row → Bool
+has_options rows = is_set (codes "list") rows
+    || (is_present (codes "depth") rows || has_others rows)
+
+-- the list of faults, which excludes all other options
+abbrev pub faults_wanted : Bool → Option Wanted
+faults_wanted true = None
+faults_wanted false = Some Faults
+
+-- what a command line wants, by clap's matches: none if it has none of the forms
+unfoldable pub wanted_by : List Row → Option Wanted
+wanted_by rows = if is_set (codes "faults") rows then faults_wanted (has_options rows)
+    else parts_by rows
 
 -- the settings that clap's matches choose
 pub record IsChosen (rows : List Row) (s : Settings) : Type 0 where
@@ -71,7 +87,8 @@ pub record IsChosen (rows : List Row) (s : Settings) : Type 0 where
 abbrev pub IsSettings : List Text → Settings → Type 0
 IsSettings words = IsChosen (matches_of command words)
 
--- the fault if clap takes the words but there are no settings: `Usage` if they have neither form, else `Memory`
+-- the fault if clap takes the words but there are no settings: `Usage` if they have none of the forms, else
+-- `Memory`
 abbrev pub fault_by : Option Wanted → ArgFault
 fault_by None = Usage
 fault_by (Some wanted) = Memory
@@ -85,7 +102,7 @@ abbrev pub IsMemoryIfTaken : List Text → ArgFault → Type 0
 IsMemoryIfTaken words fault = takes command words ≡ true
     → is_some (wanted_by (matches_of command words)) ≡ true → fault ≡ Memory
 
--- the fault `Usage` comes only if the command refuses the words or they have neither form
+-- the fault `Usage` comes only if the command refuses the words or they have none of the forms
 abbrev pub IsUsageIfRefused : List Text → ArgFault → Type 0
 IsUsageIfRefused words fault = fault ≡ Usage
     → (refusals words ≢ []) ⊎ (wanted_by (matches_of command words) ≡ None)
@@ -94,3 +111,4 @@ IsUsageIfRefused words fault = fault ≡ Usage
 abbrev pub HasDepth : Wanted → Type 0
 HasDepth (ListOf depth) = 1 ≤ depth
 HasDepth (Parts request) = 1 ≤ request.depth
+HasDepth Faults = Unit {0}

@@ -1,5 +1,5 @@
-//! The command lines `pops-part --list [--depth D] [FILE]` and
-//! `pops-part --item I --phase set|play --part A[..B] [--depth D] [FILE]`.
+//! The command lines `pops-part --list [--depth D] [FILE]`,
+//! `pops-part --item I --phase set|play --part A[..B] [--depth D] [FILE]` and `pops-part --faults [FILE]`.
 ghost use Rattle.std.specs.Prelude.{◌≡◌, ◌≢◌, ◌≤◌, ◌||◌, IfErr, IfOk, IfSome, [], is_some, map, option_and_then, option_map, true};
 ghost use Rattle.clap.specs.Values.{kind_of};
 ghost use Rattle.clap.specs.Walk.{rows_of};
@@ -7,7 +7,7 @@ ghost use Rattle.clap.specs.Matches.{found_of};
 ghost use Rattle.clap.specs.Simple.{matches_of};
 ghost use Rattle.clap.specs.Takes.{takes};
 ghost use Rattle.clap.specs.Kinds.{FailsBy};
-ghost use Rattle.pop_settings.specs.pops_part.CommandLine.{command, depth_said, fault_by, list_wanted, parts_wanted, refusals, wanted_by, IsChosen, HasDepth, IsMemoryIfTaken, IsSettings, IsUsageIfRefused};
+ghost use Rattle.pop_settings.specs.pops_part.CommandLine.{command, depth_said, fault_by, faults_wanted, has_options, list_wanted, parts_by, parts_wanted, refusals, wanted_by, IsChosen, HasDepth, IsMemoryIfTaken, IsSettings, IsUsageIfRefused};
 ghost use Rattle.pop_settings.specs.pops_part.Numbers.{number_in, phase_in, range_in};
 
 use crate::arg_fault::{ArgFault, fault_of_error};
@@ -22,7 +22,7 @@ use std::alloc::Global;
 ///
 /// # Errors
 ///
-/// `Usage` if clap refuses the words or they have neither form. `Memory` if an allocation fails, whatever the words.
+/// `Usage` if clap refuses the words or they have none of the forms. `Memory` if an allocation fails, whatever the words.
 pub fn settings(alloc: Global, words: &[&str]) -> Result<Settings, ArgFault>
     ensures chosen { IfOk result (IsSettings (map (λ s. s.now) words.now)) }
     ensures memory { IfErr result (IsMemoryIfTaken (map (λ s. s.now) words.now)) }
@@ -36,7 +36,7 @@ pub fn settings(alloc: Global, words: &[&str]) -> Result<Settings, ArgFault>
     }
 }
 
-// Returns the settings that clap's matches choose, `Usage` if the words have neither form, or `Memory`.
+// Returns the settings that clap's matches choose, `Usage` if the words have none of the forms, or `Memory`.
 fn settings_of(alloc: Global, matches: &ArgMatches<'_>) -> Result<Settings, ArgFault>
     ensures chosen { IfOk result (IsChosen (rows_of (found_of matches.now))) }
     ensures refused { IfErr result (λ fault.
@@ -52,10 +52,48 @@ fn settings_of(alloc: Global, matches: &ArgMatches<'_>) -> Result<Settings, ArgF
     })
 }
 
-// Returns what the options want, if they have one of the two forms.
+// Returns what the options want, if they have one of the three forms.
 #[tactic(auto, unfolding(crate::specs::pops_part::CommandLine::wanted_by))]
 fn wanted_of(matches: &ArgMatches<'_>) -> Option<Wanted>
     ensures value { result ≡ wanted_by (rows_of (found_of matches.now)) }
+    ensures deep { IfSome result HasDepth }
+{
+    if is_set(matches, "faults") {
+        faults_of(has_options(matches))
+    } else {
+        parts_wanted_of(matches)
+    }
+}
+
+// Returns the list of faults, unless other options are there too.
+fn faults_of(has_options: bool) -> Option<Wanted>
+    ensures value { result ≡ faults_wanted has_options }
+    ensures deep { IfSome result HasDepth }
+{
+    if has_options {
+        None
+    } else {
+        Some(Wanted::Faults)
+    }
+}
+
+// Returns whether an option about parts is there.
+fn has_options(matches: &ArgMatches<'_>) -> bool
+    ensures { result ≡ has_options (rows_of (found_of matches.now)) }
+{
+    let has_depth = text_of(matches, "depth").is_some();
+    let has_others = is_any(
+        text_of(matches, "item"),
+        text_of(matches, "phase"),
+        text_of(matches, "part"),
+    );
+    is_set(matches, "list") || has_depth || has_others
+}
+
+// Returns what the options about parts want, if they have one of the two forms.
+#[tactic(auto, unfolding(crate::specs::pops_part::CommandLine::parts_by))]
+fn parts_wanted_of(matches: &ArgMatches<'_>) -> Option<Wanted>
+    ensures value { result ≡ parts_by (rows_of (found_of matches.now)) }
     ensures deep { IfSome result HasDepth }
 {
     let depth = depth_or_default(text_of(matches, "depth"));
@@ -137,6 +175,7 @@ fn arg_matches<'a>(alloc: Global, words: &'a [&'a str]) -> Result<ArgMatches<'a>
 {
     let command = Command::new(alloc, "pops-part");
     let command = with_flag(Ok(command), alloc, "list");
+    let command = with_flag(command, alloc, "faults");
     let command = with_option(command, alloc, "depth");
     let command = with_option(command, alloc, "item");
     let command = with_option(command, alloc, "phase");

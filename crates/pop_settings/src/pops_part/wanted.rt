@@ -25,6 +25,8 @@ pub enum Wanted {
     List { depth: usize },
     /// The solutions of some parts.
     Parts(NamedParts),
+    /// The faults, with the places where they are found.
+    Faults,
 }
 
 /// What a command line of `pops-part` asks for.

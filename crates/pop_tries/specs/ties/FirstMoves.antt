@@ -128,7 +128,7 @@ abbrev pub is_heavy : Option Man → Bool
 is_heavy None = false
 is_heavy (Some man) = same_kind man.kind Queen || same_kind man.kind Rook
 
--- the move d of q gives check or takes a queen or a rook
+-- the move d of q gives check or captures a queen or a rook
 abbrev pub is_forcing : RuleSet → Position → Move → Bool
 is_forcing rule q d = is_heavy (man_on q.men d.to) || gives_check rule q d
 

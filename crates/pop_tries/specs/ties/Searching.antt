@@ -18,7 +18,7 @@ use Rattle.pop_input.specs.Posed.{IsSound, Posed}
 use Rattle.pop_walk.specs.Events.{game_of, impossible, phase_events, play_start}
 use Rattle.pop_walk.specs.Tree.{node}
 use Rattle.pop_walk.specs.ties.Phases.{HoldsAtStage, left_of as set_play_left}
-use Rattle.pop_walk.specs.ties.Plans.{plan_of}
+use Rattle.pop_walk.specs.ties.Modes.{mode_of}
 use Rattle.pop_walk.specs.ties.Walk.{IsWalking, to_come}
 use Rattle.pop_tries.specs.Tries.{Below, below_reply, refutation, reply, shown_refutations, stalemate, threatened}
 use Rattle.pop_tries.specs.Events.{BareTryEvent, attempt, below, events_of_tries, key, key_total, keys, no_tries, play_events, set_event, shown_below, tries, try_total}
@@ -78,16 +78,16 @@ IsInLimit problem Keys count = count ≤ problem.max_solutions
 IsInLimit problem (Tries most) count = Unit {0}
 
 -- the whole course of a problem
-abbrev pub course_by : {A : Type 0} → Option Battle → Bool → Course A
+abbrev pub course_by : Option Battle → Bool → Course
 course_by None set_play = NoTries
 course_by (Some battle) set_play =
     InBattle battle (if set_play then SetPlay else Beginning Keys (candidates_of None))
 
-abbrev pub first_course : {A : Type 0} → Posed → Course A
+abbrev pub first_course : Posed → Course
 first_course problem = course_by (battle_of problem.stipulation.form) problem.set_play
 
 -- nothing is left to return
-abbrev pub is_over : {A : Type 0} → TriesStage A → Bool
+abbrev pub is_over : TriesStage → Bool
 is_over SetPlay = false
 is_over NotPossible = false
 is_over (Within stage) = false
@@ -133,7 +133,7 @@ module _ (rule : RuleSet) (task : Task) where
       firsts_of rule (contest_of task) group (play_start task.problem) place
 
   -- the first moves still to be shown after the place, when `count` have been shown
-  abbrev pub firsts_left : {A : Type 0} → Firsts A → List Move
+  abbrev pub firsts_left : Firsts → List Move
   firsts_left firsts = within_limit task.problem firsts.group firsts.count
       (firsts_after firsts.group firsts.place)
 
@@ -159,7 +159,7 @@ module _ (rule : RuleSet) (task : Task) where
   ending_of (Tries most) count = try_total count ∷ []
 
   -- the events from a place among the first moves of a group on
-  abbrev pub group_left : {A : Type 0} → Firsts A → List BareTryEvent
+  abbrev pub group_left : Firsts → List BareTryEvent
   group_left firsts = flat_map (events_of_first firsts.group) (firsts_left firsts)
       ++ ending_of firsts.group (firsts.count + length (firsts_left firsts))
 
@@ -169,7 +169,7 @@ module _ (rule : RuleSet) (task : Task) where
   whole_group (Tries most) = events_of_tries task.battle rule task.problem most
 
   -- some things shown below a first move, and what follows them
-  abbrev pub below_and_after : {A : Type 0} → First A → List (Below Move) → List BareTryEvent
+  abbrev pub below_and_after : First → List (Below Move) → List BareTryEvent
   below_and_after first shown =
       map (below first.by) (shown ++ closing first.firsts.group (after_first first.by))
       ++ group_left first.firsts
@@ -184,7 +184,7 @@ module _ (rule : RuleSet) (task : Task) where
 
   -- the paths still to come of a walk below a first move
   abbrev pub walk_left : Position → List Frame → List (List Move)
-  walk_left p items = to_come rule (plan_of task.problem)
+  walk_left p items = to_come rule (mode_of task.problem)
       (half_moves task.problem.stipulation - 2) p (reverse items)
 
   -- the board has the position of the top frame of a walk from p below a first move
@@ -206,7 +206,7 @@ module _ (rule : RuleSet) (task : Task) where
   refutations_after q place = filter (refutes rule (contest_of task) q) (moves_after rule q place)
 
   -- the events still to come
-  unfoldable pub left_of : {A : Type 0} → TriesStage A → List Frame → List BareTryEvent
+  unfoldable pub left_of : TriesStage → List Frame → List BareTryEvent
   left_of SetPlay items =
       map set_event (phase_events rule task.problem Set) ++ whole_group Keys
   left_of NotPossible items = set_event impossible ∷ whole_group Keys
@@ -244,34 +244,34 @@ module _ (rule : RuleSet) (task : Task) where
       AreTries rule (contest_of task) task.most (play_start task.problem) candidates
 
   -- a place among the first moves of a group: counts fit
-  pub record IsPlaced {A : Type 0} (firsts : Firsts A) : Type 0 where
+  pub record IsPlaced (firsts : Firsts) : Type 0 where
     pub asked : IsAsked firsts.group task.most
     pub noted : HoldCandidates firsts.group firsts.candidates firsts.place
     pub counted : firsts.count + length (firsts_after firsts.group firsts.place) ≤ all_triples
     pub limited : IsInLimit task.problem firsts.group firsts.count
 
   -- a first move that has been shown
-  pub record IsFirst {A : Type 0} (first : First A) : Type 0 where
+  pub record IsFirst (first : First) : Type 0 where
     pub came : CameBy rule first.by first.undo (after_first first.by) (play_start task.problem)
     pub sound : IsWellFormed (after_first first.by)
     pub refuted : AreRefuting rule (contest_of task) (after_first first.by) first.refuting
     pub placed : IsPlaced first.firsts
 
   -- the board has the position after a first move, whose threats have been looked for
-  pub record IsAnswered {A : Type 0} (first : First A) (items : List Frame) (board : Position) : Type 0 where
+  pub record IsAnswered (first : First) (items : List Frame) (board : Position) : Type 0 where
     pub first_is : IsFirst first
     pub threat : AreThreats rule (contest_of task) (after_first first.by) first.threat
     pub bare : IsBare (after_first first.by) items board
 
   -- a walk from p below a first move
-  pub record IsWalkedBelow {A : Type 0} (first : First A) (p : Position) (items : List Frame)
+  pub record IsWalkedBelow (first : First) (p : Position) (items : List Frame)
       (board : Position) : Type 0 where
     pub first_is : IsFirst first
     pub threat : AreThreats rule (contest_of task) (after_first first.by) first.threat
     pub walking : IsOnWalk p items board
 
   -- what holds of board and frames
-  unfoldable pub HoldsAt : {A : Type 0} → TriesStage A → List Frame → Position → Type 0
+  unfoldable pub HoldsAt : TriesStage → List Frame → Position → Type 0
   HoldsAt SetPlay items board =
       IsContest (contest_of task) × IsBare (play_start task.problem) items board
   HoldsAt NotPossible items board =
@@ -314,14 +314,14 @@ pub record IsTask (task : Task) : Type 0 where
   pub few : task.most ≤ MOST_REFUTATIONS
 
 -- what a step of a search for tries, or more of them, begins with: `most` frames leave room for the play
-pub record MayStepWith {A : Type 0} (rule : RuleSet) (task : Task) (stage : TriesStage A) (items : List Frame)
+pub record MayStepWith (rule : RuleSet) (task : Task) (stage : TriesStage) (items : List Frame)
     (board : Position) (most : ℕ) : Type 0 where
   pub is_task : IsTask task
   pub room : half_moves task.problem.stipulation < most
   pub holds : HoldsAt rule task stage items board
 
 -- how many more steps may return no event
-unfoldable pub rank : {A : Type 0} → TriesStage A → ℕ
+unfoldable pub rank : TriesStage → ℕ
 rank SetPlay = 0
 rank NotPossible = 0
 rank (Within stage) = 1
@@ -337,20 +337,20 @@ rank (Stalemate first) = 0
 rank Over = 0
 
 -- what a step of a search for tries leaves
-pub record GoesWith {A : Type 0} (rule : RuleSet) (task : Task) (old : TriesStage A) (was : List Frame)
-    (new : TriesStage A) (items : List Frame) (board : Position) (event : Option TryEvent) : Type 0
+pub record GoesWith (rule : RuleSet) (task : Task) (old : TriesStage) (was : List Frame)
+    (new : TriesStage) (items : List Frame) (board : Position) (event : Option TryEvent) : Type 0
   where
     pub holds : HoldsAt rule task new items board
     pub emits : Emits rule task (left_of rule task old was) (left_of rule task new items) event
     pub falls : event ≡ None → rank new < rank old
 
 -- a step, or more of them, may begin at a desk
-abbrev pub MayStep : {A : Type 0} {n : ℕ} → RuleSet → Task → TriesStage A → Desk A n → ℕ → Type 0
+abbrev pub MayStep : {A : Type 0} {n : ℕ} → RuleSet → Task → TriesStage → Desk A n → ℕ → Type 0
 MayStep rule task stage desk most = MayStepWith rule task stage desk.frames.items desk.board most
 
 -- a step that began at one desk leaves another
-abbrev pub Goes : {A : Type 0} {n : ℕ} → RuleSet → Task → (old : TriesStage A) → Desk A n
-    → (new : TriesStage A) → Desk A n → Option TryEvent → Type 0
+abbrev pub Goes : {A : Type 0} {n : ℕ} → RuleSet → Task → (old : TriesStage) → Desk A n
+    → (new : TriesStage) → Desk A n → Option TryEvent → Type 0
 Goes rule task old was new desk event =
     GoesWith rule task old was.frames.items new desk.frames.items desk.board event
 
@@ -359,7 +359,7 @@ abbrev pub task_of : Posed → (most : ℕ) → Battle → Task
 task_of problem most battle = record { problem = problem; battle = battle; most = most }
 
 -- the events of a course still to come
-abbrev pub left_on : {A : Type 0} → RuleSet → Posed → (most : ℕ) → Course A → List Frame
+abbrev pub left_on : RuleSet → Posed → (most : ℕ) → Course → List Frame
     → List BareTryEvent
 left_on rule problem most NoTries items = no_tries ∷ []
 left_on rule problem most (InBattle battle stage) items =
@@ -367,7 +367,7 @@ left_on rule problem most (InBattle battle stage) items =
 left_on rule problem most Ended items = []
 
 -- what holds of a search on its course: in a battle it may step, with `room` frames
-abbrev pub IsOnCourse : {A : Type 0} → RuleSet → Posed → (most : ℕ) → Course A → List Frame
+abbrev pub IsOnCourse : RuleSet → Posed → (most : ℕ) → Course → List Frame
     → Position → (room : ℕ) → Type 0
 IsOnCourse rule problem most NoTries items board room = Unit {0}
 IsOnCourse rule problem most (InBattle battle stage) items board room =

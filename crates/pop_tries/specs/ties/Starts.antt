@@ -10,7 +10,7 @@ use Rattle.pop_battle.specs.ties.Frames.{Frame}
 use Rattle.pop_battle.specs.ties.Values.{attacker_to_move, value}
 use Rattle.pop_input.specs.Posed.{Posed}
 use Rattle.pop_walk.specs.Events.{play_start}
-use Rattle.pop_walk.specs.declared.plan.Plan.{Plan}
+use Rattle.pop_walk.specs.declared.mode.Mode.{Mode}
 use Rattle.pop_walk.specs.ties.Walk.{IsEnded, IsWalking, path, to_come}
 use Rattle.pop_tries.specs.Tries.{Below, below_reply, reply, threatened}
 
@@ -32,20 +32,20 @@ shown_line by_passing line = threatened line
 shown_line (by_reply m) line = reply (m ∷ line)
 
 -- a walk from p with h half-moves left shows what stands below a reply, if White, to move, wins there
-abbrev pub ShowsBelow : RuleSet → Plan → ℕ → Position → List Frame → Type 0
-ShowsBelow rule plan h p frames = (battle : Battle) (n : ℕ) → plan.battle ≡ Some battle
+abbrev pub ShowsBelow : RuleSet → Mode → ℕ → Position → List Frame → Type 0
+ShowsBelow rule mode h p frames = (battle : Battle) (n : ℕ) → mode.battle ≡ Some battle
     → attacker_to_move battle h ≡ true → h ≤ 2 * n
-    → value battle (chess plan.goal rule) h p ≡ true
-    → to_come rule plan h p frames
-    ≡ below_reply battle (chess plan.goal rule) n plan.variation h p
+    → value battle (chess mode.goal rule) h p ≡ true
+    → to_come rule mode h p frames
+    ≡ below_reply battle (chess mode.goal rule) n mode.variation h p
 
 -- a walk from p goes on to the next of the nodes still to come, which is shown, or there is none
-pub record ShowsNext (rule : RuleSet) (plan : Plan) (h : ℕ) (p : Position) (old new : List Frame)
+pub record ShowsNext (rule : RuleSet) (mode : Mode) (h : ℕ) (p : Position) (old new : List Frame)
     (board : Position) (shown : Bool) : Type 0 where
   pub walking : IsWalking rule h p new board
-  pub next : shown ≡ true → to_come rule plan h p old ≡ path new ∷ to_come rule plan h p new
+  pub next : shown ≡ true → to_come rule mode h p old ≡ path new ∷ to_come rule mode h p new
   pub deep : shown ≡ true → 2 ≤ length new
-  pub ended : shown ≡ true → IsEnded rule plan new board
-  pub none : shown ≡ false → to_come rule plan h p old ≡ []
+  pub ended : shown ≡ true → IsEnded rule mode new board
+  pub none : shown ≡ false → to_come rule mode h p old ≡ []
   pub back : shown ≡ false → board ≡ p
   pub empty : shown ≡ false → new ≡ []

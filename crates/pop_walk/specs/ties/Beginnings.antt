@@ -9,7 +9,7 @@ use Rattle.pop_events.specs.declared.event.Phase.{Phase}
 use Rattle.pop_battle.specs.Chess.{chess}
 use Rattle.pop_battle.specs.ties.Frames.{Frame}
 use Rattle.pop_walk.specs.Events.{Path, phase_half_moves, phase_start}
-use Rattle.pop_walk.specs.ties.Plans.{plan_of}
+use Rattle.pop_walk.specs.ties.Modes.{mode_of}
 use Rattle.pop_walk.specs.ties.Walk.{IsWalking, path, shown_paths}
 
 -- nothing is tried from these frames
@@ -30,6 +30,6 @@ pub record IsBeginning (rule : RuleSet) (problem : Posed) (phase : Phase) (n : �
 abbrev pub paths_by : RuleSet → Posed → Phase → ℕ → List Frame → Position → Move → List Path
 paths_by rule problem phase n frames board m =
     map (λ line. path frames ++ line)
-    (shown_paths (plan_of problem) (chess problem.stipulation.goal rule) (n == 1)
+    (shown_paths (mode_of problem) (chess problem.stipulation.goal rule) (n == 1)
     (suc (phase_half_moves problem phase - n)) (suc (phase_half_moves problem phase - n)) board
     (m ∷ []))

@@ -23,9 +23,9 @@ use Rattle.pop_walk.specs.Walks.{is_never_stopped, is_unstopped, phase_walk, sum
 use Rattle.pop_walk.specs.declared.phases.Stage.{Stage}
 use Rattle.pop_walk.specs.declared.phases.Stage.TheVariants.{Before, NotPossible, First, Within, After}
 use Rattle.pop_walk.specs.declared.phases.Walk.{Walk}
-use Rattle.pop_walk.specs.declared.plan.Plan.{Plan}
+use Rattle.pop_walk.specs.declared.mode.Mode.{Mode}
 use Rattle.pop_walk.specs.ties.Phases.{left_of}
-use Rattle.pop_walk.specs.ties.Plans.{goes_on, plan_of}
+use Rattle.pop_walk.specs.ties.Modes.{goes_on, mode_of}
 use Rattle.pop_walk.specs.ties.Walk.{is_followed, walk_length}
 
 -- the positions that are still to be tried: at least `least`, and at most `most` if no list of moves is
@@ -69,33 +69,33 @@ module _ {P M : Type 0} where
 
   -- the fewest positions that have to be tried for these moves of p, with `left` half-moves, and for all
   -- that the walk emits below them
-  unfoldable pub fewest_walked : Plan → Game P M → Bool → ℕ → ℕ → P → List M → ℕ
-  fewest_walked plan game root zero left p ms = 0
-  fewest_walked plan game root (suc fuel) zero p ms = 0
-  fewest_walked plan game root (suc fuel) (suc t) p ms =
+  unfoldable pub fewest_walked : Mode → Game P M → Bool → ℕ → ℕ → P → List M → ℕ
+  fewest_walked mode game root zero left p ms = 0
+  fewest_walked mode game root (suc fuel) zero p ms = 0
+  fewest_walked mode game root (suc fuel) (suc t) p ms =
       sum_by (λ m. let q = game.after p m in
-      fewest_for plan.battle plan.variation game root t q
-      + (if is_followed plan.battle game root t q then fewest_walked plan game false fuel
-      (walk_length plan.battle plan.variation game t q) q (game.moves q) else 0)) ms
+      fewest_for mode.battle mode.variation game root t q
+      + (if is_followed mode.battle game root t q then fewest_walked mode game false fuel
+      (walk_length mode.battle mode.variation game t q) q (game.moves q) else 0)) ms
 
 -- what a move to q has counted, with `left` half-moves left there: at least the positions that have to be
 -- tried for it; in help play no more; if only keys are shown, at most the walk count
-pub record CountsMove (rule : RuleSet) (plan : Plan) (root : Bool) (left : ℕ) (q : Position)
+pub record CountsMove (rule : RuleSet) (mode : Mode) (root : Bool) (left : ℕ) (q : Position)
     (before after : ℕ) : Type 0 where
-  pub tries : HasCounted before after (fewest_for plan.battle plan.variation
-      (chess plan.goal rule) root left q)
-  pub help : plan.battle ≡ None → after ≤ before + (if left == 0 then 0 else 1)
-  pub keys : (battle : Battle) → plan.battle ≡ Some battle → plan.variation ≡ false
+  pub tries : HasCounted before after (fewest_for mode.battle mode.variation
+      (chess mode.goal rule) root left q)
+  pub help : mode.battle ≡ None → after ≤ before + (if left == 0 then 0 else 1)
+  pub keys : (battle : Battle) → mode.battle ≡ Some battle → mode.variation ≡ false
       → attacker_to_move battle (left + 1) ≡ true
       → after ≤ before + walk_count (legal_moves rule) (position_after rule) left q
 
 -- the fewest positions that have still to be tried for all frames
-unfoldable pub fewest_left : RuleSet → Plan → ℕ → Position → List Frame → ℕ
-fewest_left rule plan h p [] = 0
-fewest_left rule plan h p (f ∷ below) =
-    fewest_walked plan (chess plan.goal rule) (length below == 0) (h - length below) f.left
+unfoldable pub fewest_left : RuleSet → Mode → ℕ → Position → List Frame → ℕ
+fewest_left rule mode h p [] = 0
+fewest_left rule mode h p (f ∷ below) =
+    fewest_walked mode (chess mode.goal rule) (length below == 0) (h - length below) f.left
     (position rule p (f ∷ below)) (moves_after rule (position rule p (f ∷ below)) f.place)
-    + fewest_left rule plan h p below
+    + fewest_left rule mode h p below
 
 -- at each frame White is to move, or nothing is tried
 unfoldable pub are_whites : Battle → List Frame → Bool
@@ -107,12 +107,12 @@ is_walked_once_by None variation frames = true
 is_walked_once_by (Some battle) variation frames = not variation && are_whites battle frames
 
 -- what is still to be tried for all frames; in help play all of it has to be tried
-unfoldable pub untried : RuleSet → Plan → ℕ → Position → List Frame → Untried
-untried rule plan h p frames = record {
-  once = is_walked_once_by plan.battle plan.variation frames;
+unfoldable pub untried : RuleSet → Mode → ℕ → Position → List Frame → Untried
+untried rule mode h p frames = record {
+  once = is_walked_once_by mode.battle mode.variation frames;
   most = to_open rule p frames;
-  least = if is_none plan.battle then to_open rule p frames
-      else fewest_left rule plan h p frames;
+  least = if is_none mode.battle then to_open rule p frames
+      else fewest_left rule mode h p frames;
 }
 
 -- the walk tries all positions that have to be tried: it doesn't prune, or it walks a battle
@@ -120,10 +120,10 @@ abbrev pub tries_all : Bool → Option Battle → Bool
 tries_all prunes battle = not (prunes && is_none battle)
 
 -- what some steps of a walk count; nothing has to be tried unless `full`
-abbrev pub CountsWalk : Bool → RuleSet → Plan → ℕ → Position → (old new : List Frame)
+abbrev pub CountsWalk : Bool → RuleSet → Mode → ℕ → Position → (old new : List Frame)
     → (before after : ℕ) → Type 0
-CountsWalk full rule plan h p old new before after =
-    Counts (least_if full (untried rule plan h p old)) (untried rule plan h p new) before after
+CountsWalk full rule mode h p old new before after =
+    Counts (least_if full (untried rule mode h p old)) (untried rule mode h p new) before after
 
 -- the fewest positions that have to be tried to show a phase of a battle: the first position; for each of
 -- White's moves and each first move the positions of a smallest tree that decides it; for any other shown
@@ -132,7 +132,7 @@ abbrev pub phase_fewest : RuleSet → Posed → Phase → ℕ
 phase_fewest rule problem phase =
     if is_impossible_phase rule problem phase then 0
     else (if phase_half_moves problem phase == 0 then 0 else 1)
-    + fewest_walked (plan_of problem) (chess problem.stipulation.goal rule) true
+    + fewest_walked (mode_of problem) (chess problem.stipulation.goal rule) true
     (phase_half_moves problem phase) (phase_half_moves problem phase)
     (phase_start problem phase) (legal_moves rule (phase_start problem phase))
 
@@ -152,7 +152,7 @@ untried_from rule problem phase = record {
 -- what is still to be tried from the frames of a walk on
 abbrev pub untried_within : RuleSet → Posed → Walk → List Frame → Untried
 untried_within rule problem walk frames =
-    both (untried rule (plan_of problem) (phase_half_moves problem walk.phase)
+    both (untried rule (mode_of problem) (phase_half_moves problem walk.phase)
     (phase_start problem walk.phase) frames)
     (if goes_on walk then untried_from rule problem Play else none_untried)
 

@@ -14,8 +14,8 @@ use Rattle.pop_events.specs.declared.event.Phase.TheVariants.{Play}
 use Rattle.pop_walk.specs.declared.phases.Stage.{Stage}
 use Rattle.pop_walk.specs.declared.phases.Stage.TheVariants.{Before, NotPossible, First, Within, After}
 use Rattle.pop_walk.specs.declared.phases.Walk.{Walk}
-use Rattle.pop_walk.specs.declared.plan.Plan.{Plan}
-use Rattle.pop_walk.specs.ties.Plans.{goes_on, plan_of, walk_of}
+use Rattle.pop_walk.specs.declared.mode.Mode.{Mode}
+use Rattle.pop_walk.specs.ties.Modes.{goes_on, mode_of, walk_of}
 
 module _ {M : Type 0} where
   -- the path begins a solution: it is a line, or a node with no node above it
@@ -42,7 +42,7 @@ module _ {M : Type 0} where
 -- the paths to come from the frames of a phase
 abbrev pub phase_paths : RuleSet → Posed → Phase → List Frame → List Path
 phase_paths rule problem phase frames =
-    to_come rule (plan_of problem) (phase_half_moves problem phase) (phase_start problem phase)
+    to_come rule (mode_of problem) (phase_half_moves problem phase) (phase_start problem phase)
     frames
 
 -- the events of some paths of a phase, after `count` solutions have begun, and then these events
@@ -77,7 +77,7 @@ HoldsAtStage rule problem (First walk) frames board =
     IsWalking rule (phase_half_moves problem walk.phase) (phase_start problem walk.phase) frames
     board
     × (walk ≡ walk_of problem walk.phase walk.scope) × (2 ≤ length frames)
-    × IsEnded rule (plan_of problem) frames board
+    × IsEnded rule (mode_of problem) frames board
 HoldsAtStage rule problem (Within walk count) frames board =
     IsWalking rule (phase_half_moves problem walk.phase) (phase_start problem walk.phase) frames
     board
@@ -86,22 +86,22 @@ HoldsAtStage rule problem After frames board = (frames ≡ []) × (board ≡ pla
 
 -- what the walk to the next path of a phase leaves, if at most `limit` solutions may still begin;
 -- `given`: a next path exists and is emitted
-pub record Walks (rule : RuleSet) (plan : Plan) (help : Bool) (h : ℕ) (p : Position) (limit : ℕ)
+pub record Walks (rule : RuleSet) (mode : Mode) (help : Bool) (h : ℕ) (p : Position) (limit : ℕ)
     (old new : List Frame) (board : Position) (given : Bool) : Type 0 where
   pub walking : IsWalking rule h p new board
-  pub come : given ≡ true → kept_paths help limit (to_come rule plan h p old)
+  pub come : given ≡ true → kept_paths help limit (to_come rule mode h p old)
       ≡ path new ∷ kept_paths help
-      (limit - (if begins_solution help (path new) then 1 else 0)) (to_come rule plan h p new)
-  pub starts : given ≡ true → beginning_count help limit (to_come rule plan h p old)
+      (limit - (if begins_solution help (path new) then 1 else 0)) (to_come rule mode h p new)
+  pub starts : given ≡ true → beginning_count help limit (to_come rule mode h p old)
       ≡ (if begins_solution help (path new) then 1 else 0)
       + beginning_count help
-      (limit - (if begins_solution help (path new) then 1 else 0)) (to_come rule plan h p new)
+      (limit - (if begins_solution help (path new) then 1 else 0)) (to_come rule mode h p new)
   pub within : given ≡ true → (if begins_solution help (path new) then 1 else 0) ≤ limit
   pub deep : given ≡ true → 2 ≤ length new
-  pub closed : given ≡ true → IsEnded rule plan new board
-  pub ended : given ≡ false → kept_paths help limit (to_come rule plan h p old) ≡ []
+  pub closed : given ≡ true → IsEnded rule mode new board
+  pub ended : given ≡ false → kept_paths help limit (to_come rule mode h p old) ≡ []
   pub over : given ≡ false → (new ≡ []) ⊎ (limit ≡ 0)
-  pub none : given ≡ false → beginning_count help limit (to_come rule plan h p old)
+  pub none : given ≡ false → beginning_count help limit (to_come rule mode h p old)
       ≡ 0
 
 -- what a call returns: the first event still to come, as it is shown, with board and frames at its path

@@ -20,10 +20,10 @@ use Rattle.pop_battle.specs.Game.{Game}
 pub use Rattle.pop_battle.specs.ties.Values.{attacker_to_move, value}
 pub use Rattle.pop_battle.specs.Chess.{chess}
 pub use Rattle.pop_battle.specs.ties.Frames.{Frame}
-use Rattle.pop_battle.specs.ties.Frames.{AreKnown, learned, moved, position, IsLinked, left_at_top}
+use Rattle.pop_battle.specs.ties.Frames.{AreCursors, learned, moved, position, IsLinked, left_at_top}
 use Rattle.pop_battle.specs.ties.Skipping.{CannotBeMated, SkipsMoves}
 use Rattle.pop_battle.specs.declared.frame.LineEnds.{LineEnds}
-use Rattle.pop_walk.specs.declared.plan.Plan.{Plan}
+use Rattle.pop_walk.specs.declared.mode.Mode.{Mode}
 pub use Rattle.pop_battle.specs.ties.Marks.{is_for_mate}
 
 -- the fewest half-moves with which White, to move, can reach the aim
@@ -66,15 +66,15 @@ module _ {P M : Type 0} where
       if not variation && attacker_to_move battle (t + 1) then 0 else shown_length battle game t q
 
   -- the paths that the walk emits from p by these moves, with `left` half-moves; `fuel` is at least `left`
-  unfoldable pub shown_paths : Plan → Game P M → Bool → ℕ → ℕ → P → List M → List (List M)
-  shown_paths plan game root zero left p ms = []
-  shown_paths plan game root (suc fuel) zero p ms = []
-  shown_paths plan game root (suc fuel) (suc t) p ms =
+  unfoldable pub shown_paths : Mode → Game P M → Bool → ℕ → ℕ → P → List M → List (List M)
+  shown_paths mode game root zero left p ms = []
+  shown_paths mode game root (suc fuel) zero p ms = []
+  shown_paths mode game root (suc fuel) (suc t) p ms =
       flat_map (λ m. let q = game.after p m in
-      if is_followed plan.battle game root t q
-      then (if is_emitted plan.battle game t q then (m ∷ []) ∷ [] else [])
-      ++ map (λ path. m ∷ path) (shown_paths plan game false fuel
-      (walk_length plan.battle plan.variation game t q) q (game.moves q))
+      if is_followed mode.battle game root t q
+      then (if is_emitted mode.battle game t q then (m ∷ []) ∷ [] else [])
+      ++ map (λ path. m ∷ path) (shown_paths mode game false fuel
+      (walk_length mode.battle mode.variation game t q) q (game.moves q))
       else []) ms
 
 -- the moves that lead to the top frame
@@ -84,13 +84,13 @@ path (f ∷ []) = []
 path (f ∷ (g ∷ below)) = path (g ∷ below) ++ f.by ∷ []
 
 -- the paths still to come from all frames, in order
-unfoldable pub to_come : RuleSet → Plan → ℕ → Position → List Frame → List Path
-to_come rule plan h p [] = []
-to_come rule plan h p (f ∷ below) =
+unfoldable pub to_come : RuleSet → Mode → ℕ → Position → List Frame → List Path
+to_come rule mode h p [] = []
+to_come rule mode h p (f ∷ below) =
     map (λ line. path (f ∷ below) ++ line)
-    (shown_paths plan (chess plan.goal rule) (length below == 0) (h - length below) f.left
+    (shown_paths mode (chess mode.goal rule) (length below == 0) (h - length below) f.left
     (position rule p (f ∷ below)) (moves_after rule (position rule p (f ∷ below)) f.place))
-    ++ to_come rule plan h p below
+    ++ to_come rule mode h p below
 
 -- each frame has room for its half-moves
 unfoldable pub IsRoomy : ℕ → List Frame → Type 0
@@ -114,7 +114,7 @@ pub record IsWalking (rule : RuleSet) (h : ℕ) (p : Position) (frames : List Fr
     (board : Position) : Type 0 where
   pub linked : IsLinked rule p frames
   pub roomy : IsRoomy h frames
-  pub known : AreKnown rule p frames
+  pub cursors : AreCursors rule p frames
   pub ends : AreEnds rule p frames
   pub sound : IsWellFormed board
   pub board_at : board ≡ position rule p frames
@@ -137,27 +137,27 @@ seeks_last None = true
 seeks_last (Some battle) = attacker_to_move battle 1
 
 -- if the move to q was the last half-move, by a side that wants mate, then it mated
-abbrev pub IsMatedAtLast : RuleSet → Plan → ℕ → Position → Type 0
-IsMatedAtLast rule plan left q =
-    is_for_mate plan.goal ≡ true → seeks_last plan.battle ≡ true → left ≡ 0 → is_mate rule q ≡ true
+abbrev pub IsMatedAtLast : RuleSet → Mode → ℕ → Position → Type 0
+IsMatedAtLast rule mode left q =
+    is_for_mate mode.goal ≡ true → seeks_last mode.battle ≡ true → left ≡ 0 → is_mate rule q ≡ true
 
 -- these moves of p, with `left` half-moves left, lead to no path: there are none; or one half-move is left,
 -- for a side that wants mate, and they don't mate; or two are left in help play for mate, no reply to them
 -- mates, and they have counted
-abbrev pub HaveNoPaths : RuleSet → Plan → ℕ → Position → (before after : ℕ) → List Move → Type 0
-HaveNoPaths rule plan left p before after over =
-    ((after ≡ before) × ((over ≡ []) ⊎ ((seeks_last plan.battle ≡ true) × (plan.goal ≡ Mate)
+abbrev pub HaveNoPaths : RuleSet → Mode → ℕ → Position → (before after : ℕ) → List Move → Type 0
+HaveNoPaths rule mode left p before after over =
+    ((after ≡ before) × ((over ≡ []) ⊎ ((seeks_last mode.battle ≡ true) × (mode.goal ≡ Mate)
     × (left ≡ 1) × (filter (is_mating rule p) over ≡ []))))
-    ⊎ ((plan.battle ≡ None) × (plan.goal ≡ Mate) × (left ≡ 2)
+    ⊎ ((mode.battle ≡ None) × (mode.goal ≡ Mate) × (left ≡ 2)
     × CannotBeMated rule p before after over)
 
 -- after a move of help play to q, with t half-moves left, lines that reach the goal end on these squares
-pub record AreEndsAfter (rule : RuleSet) (plan : Plan) (t : ℕ) (q : Position) (e : LineEnds) : Type 0
+pub record AreEndsAfter (rule : RuleSet) (mode : Mode) (t : ℕ) (q : Position) (e : LineEnds) : Type 0
   where
-    pub help : plan.battle ≡ None
+    pub help : mode.battle ≡ None
     pub some : 0 < t
-    pub ends : HoldsEnds plan.goal rule t q e.squares
-    pub same : e.goal ≡ plan.goal
+    pub ends : HoldsEnds mode.goal rule t q e.squares
+    pub same : e.goal ≡ mode.goal
 
 -- after a move the mover's king is on none of these squares
 pub record IsKingOff (rule : RuleSet) (p : Position) (m : Move) (w : ℕ) : Type 0 where
@@ -172,32 +172,32 @@ KeepsEnds ends old new = MatchOption ends (new ≡ old)
     → new ≡ below ++ ending top e ∷ [])
 
 -- from `place` on, the walk skips only moves without paths; the moves `rest` come after them
-abbrev pub GoesTo : RuleSet → Plan → ℕ → Position → ℕ → List Move → (before after : ℕ) → Type 0
-GoesTo rule plan left p place rest before after =
-    SkipsMoves rule p place rest (HaveNoPaths rule plan left p before after)
+abbrev pub GoesTo : RuleSet → Mode → ℕ → Position → ℕ → List Move → (before after : ℕ) → Type 0
+GoesTo rule mode left p place rest before after =
+    SkipsMoves rule p place rest (HaveNoPaths rule mode left p before after)
 
 -- `found` is the next move after `place` that may have a path
-abbrev pub IsNextOf : RuleSet → Plan → ℕ → Position → (place next before after : ℕ) → Option Move
+abbrev pub IsNextOf : RuleSet → Mode → ℕ → Position → (place next before after : ℕ) → Option Move
     → Type 0
-IsNextOf rule plan left p place next before after found =
+IsNextOf rule mode left p place next before after found =
     MatchOption found
-    (((left ≡ 0) × (after ≡ before)) ⊎ GoesTo rule plan left p place [] before after)
+    (((left ≡ 0) × (after ≡ before)) ⊎ GoesTo rule mode left p place [] before after)
     (λ m. (0 < left)
-    × GoesTo rule plan left p place (m ∷ moves_after rule p next) before after
+    × GoesTo rule mode left p place (m ∷ moves_after rule p next) before after
     × (is_legal rule p m ≡ true))
 
 -- the top frame moves on to its next move, in the board's position p
-pub record MovesOn (rule : RuleSet) (plan : Plan) (p : Position) (old new : List Frame)
+pub record MovesOn (rule : RuleSet) (mode : Mode) (p : Position) (old new : List Frame)
     (before after : ℕ) (found : Option Move) : Type 0 where
   pub below : List Frame
   pub top : Frame
   pub place : ℕ
-  pub known : Option LegalPlace
+  pub cursor : Option LegalPlace
   pub stood : old ≡ below ++ top ∷ []
-  pub stands : new ≡ below ++ moved (learned top known) place ∷ []
-  pub within : IfSome known (IsPlaceIn rule p)
-  pub next : IsNextOf rule plan top.left p top.place place before after found
-  pub mated : IfSome found (λ m. IsMatedAtLast rule plan (top.left - 1) (position_after rule p m))
+  pub stands : new ≡ below ++ moved (learned top cursor) place ∷ []
+  pub within : IfSome cursor (IsPlaceIn rule p)
+  pub next : IsNextOf rule mode top.left p top.place place before after found
+  pub mated : IfSome found (λ m. IsMatedAtLast rule mode (top.left - 1) (position_after rule p m))
 
 -- the path that ends at a frame with `left` half-moves is known to reach the goal: always in help play,
 -- and in a direct mate with variations if it is a whole variation
@@ -207,18 +207,18 @@ ends_at_goal (Some battle) variation left = left == 0
     && (variation && attacker_to_move battle 1)
 
 -- if the path to the top frame ends with the goal, the board's position reaches it
-abbrev pub IsEnded : RuleSet → Plan → List Frame → Position → Type 0
-IsEnded rule plan frames board = ends_at_goal plan.battle plan.variation
+abbrev pub IsEnded : RuleSet → Mode → List Frame → Position → Type 0
+IsEnded rule mode frames board = ends_at_goal mode.battle mode.variation
     (left_at_top frames) ≡ true
-    → (chess plan.goal rule).goal board ≡ true
+    → (chess mode.goal rule).goal board ≡ true
 
 -- what one step of a walk leaves, with frames listed from the top down; `given`: the path to the new top
 -- frame is emitted
-pub record Steps (rule : RuleSet) (plan : Plan) (h : ℕ) (p : Position) (old new : List Frame)
+pub record Steps (rule : RuleSet) (mode : Mode) (h : ℕ) (p : Position) (old new : List Frame)
     (board : Position) (given : Bool) : Type 0 where
   pub walking : IsWalking rule h p new board
-  pub come : to_come rule plan h p old ≡ (if given then path new ∷ [] else [])
-      ++ to_come rule plan h p new
+  pub come : to_come rule mode h p old ≡ (if given then path new ∷ [] else [])
+      ++ to_come rule mode h p new
   pub deep : given ≡ true → length new ≡ length old + 1
-  pub ended : given ≡ true → IsEnded rule plan new board
+  pub ended : given ≡ true → IsEnded rule mode new board
   pub falls : walk_work h new < walk_work h old

@@ -1,7 +1,6 @@
 //! Events as they are printed, some of which no search returns today.
 use arrayvec::ArrayVec;
-use chess_core::man::{Colour, Kind, Man};
-use chess_core::square::Square;
+use chess_core::{Colour, Kind, Man, Square};
 use pop_events::event::Event;
 use pop_events::shown::{Mark, Shown, Side};
 use pop_print::print_event;

@@ -3,7 +3,7 @@ use Rattle.std.proofs.lemmas.Bool.{cases_Bool, false≢true}
 use Rattle.std.proofs.lemmas.List.{length-set}
 use Rattle.std.specs.Int.{bit_at}
 use Rattle.chess_reach.proofs.Holding.{block_paid, block_spare, fewer_held}
-use Rattle.chess_reach.proofs.Trying.{blocker_there, found_at, held_there, in_place, kept_in, narrowed_place, none_next, on_board, set_again, within_moves}
+use Rattle.chess_reach.proofs.Trying.{blocker_there, found_at, held_there, in_post, kept_in, narrowed_post, none_next, on_board, set_again, within_moves}
 use Rattle.chess_reach.specs.ties.Guards.{guard_at, unused}
 use Rattle.chess_reach.specs.ties.Hold.{Holds, end_at}
 use Rattle.chess_reach.specs.ties.Whereabouts.{has}
@@ -23,11 +23,11 @@ returns-in_default-off t c men ends holds =
     let e = end_at q ends i in
     absurd (elim (cases_Bool (has g.kind e.kind e.square c.holding-guarding.result)) [
       | inl on ↦ false≢true (sym c.if-can_hold.false ∙ c.can_hold.ensures men ends
-          (fewer_held q men ends _ _ _ _ _ (narrowed_place q men ends left _ _ _ i g is lt h c.in-Some-kept.kept room
+          (fewer_held q men ends _ _ _ _ _ (narrowed_post q men ends left _ _ _ i g is lt h c.in-Some-kept.kept room
           (kept_in q men ends left _ _ _ i g is lt h c.within.result c.in-Some-kept.kept c.in-Some-kept.ensures.kept
-          (c.within.ensures g.kind e.kind e.square (in_place q men ends left _ _ _ i g is lt h) on)) c.in-Some-kept.ensures.within.0) c.taken_from-rest.ensures.others))
+          (c.within.ensures g.kind e.kind e.square (in_post q men ends left _ _ _ i g is lt h) on)) c.in-Some-kept.ensures.within.0) c.taken_from-rest.ensures.others))
       | inr off ↦ within_moves q men ends left _ _ _ i g is lt h c.without.result c.in_default-off.ensures.kept
-          (c.without.ensures g.kind e.kind e.square (on_board q men ends left _ _ _ i g is lt h) (in_place q men ends left _ _ _ i g is lt h) off)
+          (c.without.ensures g.kind e.kind e.square (on_board q men ends left _ _ _ i g is lt h) (in_post q men ends left _ _ _ i g is lt h) off)
     ])
 
 pub loop-i-preserved : goal.loop-i-preserved
@@ -49,14 +49,14 @@ loop-i-preserved t c =
             let none : has g.kind e.kind e.square c.holding-guarding.result ≡ false = elim (cases_Bool (has g.kind e.kind e.square c.holding-guarding.result)) [
               | inr off ↦ off
               | inl on ↦ absurd (false≢true (sym w.if-can_hold.false ∙ w.can_hold.ensures men ends
-                  (fewer_held q men ends _ _ _ _ _ (narrowed_place q men ends left _ _ _ i g is lt h w.in-Some-kept.kept room
+                  (fewer_held q men ends _ _ _ _ _ (narrowed_post q men ends left _ _ _ i g is lt h w.in-Some-kept.kept room
                   (kept_in q men ends left _ _ _ i g is lt h c.within.result w.in-Some-kept.kept w.in-Some-kept.ensures.kept
-                  (c.within.ensures g.kind e.kind e.square (in_place q men ends left _ _ _ i g is lt h) on)) w.in-Some-kept.ensures.within.0)
+                  (c.within.ensures g.kind e.kind e.square (in_post q men ends left _ _ _ i g is lt h) on)) w.in-Some-kept.ensures.within.0)
                   c.taken_from-rest.ensures.others)))
             ] in
-            let after = narrowed_place q men ends left _ _ _ i g is lt h w.in-Some-off.off room
+            let after = narrowed_post q men ends left _ _ _ i g is lt h w.in-Some-off.off room
             (kept_in q men ends left _ _ _ i g is lt h w.without.result w.in-Some-off.off w.in-Some-off.ensures.kept
-            (w.without.ensures g.kind e.kind e.square (on_board q men ends left _ _ _ i g is lt h) (in_place q men ends left _ _ _ i g is lt h) none))
+            (w.without.ensures g.kind e.kind e.square (on_board q men ends left _ _ _ i g is lt h) (in_post q men ends left _ _ _ i g is lt h) none))
             w.in-Some-off.ensures.within.0 in (
               subst (λ x. Holds q men x c.args.unheld c.match-kept.spare c.args.theirs ends) (sym (w.left-is ∙ set_again left i w.in-Some-kept.kept w.in-Some-off.off))
                   (subst (λ n. Holds q men (slice_set left i w.in-Some-off.off) c.args.unheld n c.args.theirs ends) (sym w.spare-is) after),
@@ -74,7 +74,7 @@ loop-i-preserved t c =
                   (subst (λ n. Holds q men left c.args.unheld n c.args.theirs ends) (sym w.spare-is) h),
               none_next q ends c.in-Some.square i before.1
                   (λ does. within_moves q men ends left _ _ _ i g is lt h c.within.result w.in_default-kept.ensures.kept
-                  (c.within.ensures g.kind e.kind e.square (in_place q men ends left _ _ _ i g is lt h)
+                  (c.within.ensures g.kind e.kind e.square (in_post q men ends left _ _ _ i g is lt h)
                   (held_there q men ends left _ _ _ i g is lt h c.in-Some.square c.holding-guarding.result c.holding-guarding.ensures.guarded c.holding-guarding.ensures.defended does))),
             );
       }

@@ -6,7 +6,7 @@ use Rattle.chess_reach.proofs.planned_squares.keep_apart.Given as goal
 
 abbrev pub invariant-loop-i : goal.invariant-loop-i
 invariant-loop-i l = record {
-  size : length l.places ≡ 8;
-  kept : (men : List (Option Man)) (ends : Ends) (w theirs : ℕ) → Holds l.quest men l.fn.places w l.fn.most theirs ends → IsApart l.quest ends
-      → Holds l.quest men l.places w l.spare theirs ends;
+  size : length l.posts ≡ 8;
+  kept : (men : List (Option Man)) (ends : Ends) (w theirs : ℕ) → Holds l.quest men l.fn.posts w l.fn.most theirs ends → IsApart l.quest ends
+      → Holds l.quest men l.posts w l.spare theirs ends;
 }

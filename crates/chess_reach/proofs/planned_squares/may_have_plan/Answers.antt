@@ -17,7 +17,7 @@ returns-in_default-keep_apart c prey p ends plan captures of =
     (omega (arith, king_moves _ prey _ p _ _ _ _ ends plan captures of, of.few)) (king_arrives _ prey _ p _ _ _ _ ends plan captures of)
     (king_there _ prey _ p _ _ _ _ ends plan captures of c.at.result c.at.ensures.here) in
     absurd (c.in_default-keep_apart.ensures p.men ends 0 _
-    (plan_holds _ prey _ p _ _ _ _ ends plan captures of c.first_places-places.result 0 c.in-Some.steps c.requires.moves c.show_below_64.ensures c.first_places-places.ensures
+    (plan_holds _ prey _ p _ _ _ _ ends plan captures of c.first_posts-posts.result 0 c.in-Some.steps c.requires.moves c.show_below_64.ensures c.first_posts-posts.ensures
     (λ t small on. absurd (false≢true (sym (off_zero t) ∙ on))) cheap) (ends_apart _ prey _ p _ _ _ _ ends plan captures of))
 
 pub returns-in-Mate : goal.returns-in-Mate
@@ -28,7 +28,7 @@ returns-in-Mate c prey p ends plan captures of =
     (king_there _ prey _ p _ _ _ _ ends plan captures of c.at.result c.at.ensures.here) in
     let (i, lt, checks) = guard_checks _ prey _ p _ _ _ _ ends plan captures of c.in-Mate.is in
     c.can_mate.ensures p.men ends i (c.in-Some-keep_apart.ensures p.men ends _ _
-    (plan_holds _ prey _ p _ _ _ _ ends plan captures of c.first_places-places.result c.unheld_squares-unheld.result c.in-Some.steps c.requires.moves c.show_below_64.ensures c.first_places-places.ensures
+    (plan_holds _ prey _ p _ _ _ _ ends plan captures of c.first_posts-posts.result c.unheld_squares-unheld.result c.in-Some.steps c.requires.moves c.show_below_64.ensures c.first_posts-posts.ensures
     c.unheld_squares-unheld.ensures cheap) (ends_apart _ prey _ p _ _ _ _ ends plan captures of)) lt checks
 
 pub returns-in-Stalemate : goal.returns-in-Stalemate
@@ -38,5 +38,5 @@ returns-in-Stalemate c prey p ends plan captures of =
     (omega (arith, king_moves _ prey _ p _ _ _ _ ends plan captures of, of.few)) (king_arrives _ prey _ p _ _ _ _ ends plan captures of)
     (king_there _ prey _ p _ _ _ _ ends plan captures of c.at.result c.at.ensures.here) in
     c.can_hold.ensures p.men ends (c.in-Some-keep_apart.ensures p.men ends _ _
-    (plan_holds _ prey _ p _ _ _ _ ends plan captures of c.first_places-places.result c.unheld_squares-unheld.result c.in-Some.steps c.requires.moves c.show_below_64.ensures c.first_places-places.ensures
+    (plan_holds _ prey _ p _ _ _ _ ends plan captures of c.first_posts-posts.result c.unheld_squares-unheld.result c.in-Some.steps c.requires.moves c.show_below_64.ensures c.first_posts-posts.ensures
     c.unheld_squares-unheld.ensures cheap) (ends_apart _ prey _ p _ _ _ _ ends plan captures of))

@@ -1,5 +1,5 @@
 use Rattle.chess_threats.proofs.Chess.{arith, rules}
-use Rattle.chess_threats.proofs.Passing.{pawn_mere}
+use Rattle.chess_threats.proofs.PlainMoves.{pawn_mere}
 use Rattle.chess_threats.proofs.threats.altering_squares.Goals as goal
 
 pub returns-then-is : goal.returns-then-is

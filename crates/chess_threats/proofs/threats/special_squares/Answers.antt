@@ -1,5 +1,5 @@
 use Rattle.chess_threats.proofs.Chess.{arith, off_left, off_right, rules}
-use Rattle.chess_threats.proofs.Passing.{king_plain, man_plain, pawn_plain}
+use Rattle.chess_threats.proofs.PlainMoves.{king_plain, man_plain, pawn_plain}
 use Rattle.chess_threats.proofs.threats.special_squares.Goals as goal
 
 pub returns-then-is : goal.returns-then-is

@@ -20,7 +20,7 @@ returns-then-is_decided-clause-next g c = λ p r.
     (rw seek (test.decided g.R.Rules.rule c.args.aim _ _ _ _ c.in-Some.ensures.items c.requires.above p _ s))
 
 pub moves_at-moves-requires : goal.moves_at-moves-requires
-moves_at-moves-requires g c = search (rules, test.top_known)
+moves_at-moves-requires g c = search (rules, test.top_cursor)
 
 pub close-requires-in_default-next_tried : goal.close-requires-in_default-next_tried
 close-requires-in_default-next_tried g c = λ deep.

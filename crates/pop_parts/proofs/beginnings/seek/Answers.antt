@@ -5,7 +5,7 @@ use Rattle.pop_parts.proofs.beginnings.seek.Goals as goal
 pub next_move-requires : goal.next_move-requires
 next_move-requires g c =
     let s = c.requires.seeking.2 in
-    let top = seeking.top-known g.R.Rules.rule c.requires.seeking.0 c.args.depth c.requires.seeking.1 _ _ _ c.in-Some.ensures.items _ s in
+    let top = seeking.top-cursor g.R.Rules.rule c.requires.seeking.0 c.args.depth c.requires.seeking.1 _ _ _ c.in-Some.ensures.items _ s in
     search (rules, top)
 
 pub step_back-requires : goal.step_back-requires

@@ -23,7 +23,7 @@ pub returns-then-not-walk_on : goal.returns-then-not-walk_on
 returns-then-not-walk_on g c = record {
   next = λ first base w.
       let p = base_position g.R.Rules.rule c.args.task.now.problem first base in
-      let next = (rw (c.of-plan.ensures, c.half_moves_below.ensures) at c.walk_on.ensures.next p) w in
+      let next = (rw (c.of-mode.ensures, c.half_moves_below.ensures) at c.walk_on.ensures.next p) w in
       let over = c.if-not-walk_on.true in
       (next.walking, (next.none over, next.back over, goes.none_reversed _ (next.empty over)));
 }
@@ -34,10 +34,10 @@ returns g c = record {
       let rule = g.R.Rules.rule in
       let task = c.args.task.now in
       let old = c.args.desk.now in
-      let on = goes.on_walk rule task c.of-plan.result c.half_moves_below.result c.of-plan.ensures c.half_moves_below.ensures
+      let on = goes.on_walk rule task c.of-mode.result c.half_moves_below.result c.of-mode.ensures c.half_moves_below.ensures
       (base_position rule task.problem first base) old.board old.frames.items w in
       let node = c.shown_node-node.ensures in
-      goes.node_goes rule task c.of-plan.result c.half_moves_below.result c.of-plan.ensures c.half_moves_below.ensures first base old.frames.items
+      goes.node_goes rule task c.of-mode.result c.half_moves_below.result c.of-mode.ensures c.half_moves_below.ensures first base old.frames.items
       c.walk_on.new.desk.frames.items c.as_slice.result.now c.walk_on.new.desk.board c.shown_node-node.new.board c.walk_on.result
       c.shown_node-node.result.depth c.shown_node-node.result.half c.shown_node-node.result.shown
       c.if-not-walk_on.false c.as_slice.ensures.value (c.walk_on.ensures.next _ on) node.unchanged node.depth node.half node.shown;

@@ -1,6 +1,6 @@
 use Rattle.pop_tries.proofs.Words.{sym, ◌∙◌}
 use Rattle.pop_tries.specs.ties.Searching.{contest_of}
-use Rattle.pop_tries.proofs.Counts.{known_refuting}
+use Rattle.pop_tries.proofs.Counts.{refuting_is_kept}
 use Rattle.pop_tries.proofs.Candidates.{counted_try, refuted_no_key, unrefuted_key}
 use Rattle.pop_tries.proofs.first_moves.is_key_or_noted.Goals as goal
 
@@ -30,5 +30,5 @@ returns-then-tally-task-clause-refuting g c =
     let rest = c.are_two_refutations.ensures.rest.board in
     let counted = rw (c.contest-contest.ensures, rest) at c.count_refutations-tally.ensures.count in (
       counted_try rule contest c.args.desk.now.board c.args.task.now.most _ counted c.if-tally-eq0.false c.if-tally-task.true,
-      known_refuting rule contest c.args.desk.now.board _ _ _ c.known.ensures ((rw (c.contest-contest.ensures, rest) at c.count_refutations-tally.ensures.held) c.if-tally-task.true) (rw (c.contest-contest.ensures, rest) at c.count_refutations-tally.ensures.last),
+      refuting_is_kept rule contest c.args.desk.now.board _ _ _ c.refuting_kept.ensures ((rw (c.contest-contest.ensures, rest) at c.count_refutations-tally.ensures.held) c.if-tally-task.true) (rw (c.contest-contest.ensures, rest) at c.count_refutations-tally.ensures.last),
     )

@@ -7,7 +7,7 @@ use Rattle.pop_tries.proofs.first_moves.next_refutation.Given as goal
 -- no reply so far refutes
 abbrev pub invariant-loop-by : goal.invariant-loop-by
 invariant-loop-by g l = NoneSoFar g.R.Rules.rule l.fn.desk.board (refutes g.R.Rules.rule l.fn.contest l.fn.desk.board) l.fn.place l.place l.desk.board l.fn.desk.frames.items
-    l.desk.frames.items l.known
+    l.desk.frames.items l.cursor
 
 abbrev pub decreases-loop-by : goal.decreases-loop-by
 decreases-loop-by g l = length (moves_after g.R.Rules.rule l.fn.desk.board l.place)

@@ -10,7 +10,7 @@ use Rattle.pop_tries.proofs.first_moves.play_next_try.Given as goal
 abbrev pub invariant-loop-by : goal.invariant-loop-by
 invariant-loop-by g l = NoneSoFar g.R.Rules.rule l.fn.desk.board
     (λ m. belongs g.R.Rules.rule (contest_of l.task) (Tries l.task.most) (position_after g.R.Rules.rule l.fn.desk.board m))
-    l.fn.place l.place l.desk.board l.fn.desk.frames.items l.desk.frames.items l.known
+    l.fn.place l.place l.desk.board l.fn.desk.frames.items l.desk.frames.items l.cursor
 
 abbrev pub decreases-loop-by : goal.decreases-loop-by
 decreases-loop-by g l = length (moves_after g.R.Rules.rule l.fn.desk.board l.place)

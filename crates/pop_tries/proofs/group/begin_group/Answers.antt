@@ -17,7 +17,7 @@ returns g c =
     let task = c.args.task.now in
     let group = c.args.group in
     let candidates = c.first_candidates.result in
-    let firsts : Firsts g.row.R.Denot = record { group = group; place = c.start.result; count = 0; candidates = candidates } in
+    let firsts : Firsts = record { group = group; place = c.start.result; count = 0; candidates = candidates } in
     let holds : HoldsAt rule task (FirstMove firsts) c.args.desk.now.frames.items c.args.desk.now.board = (
       h.0,
       h.1,
@@ -29,7 +29,7 @@ returns g c =
         limited = steps.at_first task.problem group;
       },
     ) in
-    goes.with_event rule task _ _ _ _ _ holds _ (beginning_of group) (goes.group_comes g.row.R.Denot rule task group _ _ c.start.result c.start.ensures _ _)
+    goes.with_event rule task _ _ _ _ _ holds _ (beginning_of group) (goes.group_comes rule task group _ _ c.start.result c.start.ensures _ _)
     (elim c.match-group.branch [
       | in-Keys w ↦ w.result-is ∙ sym (rw w.in-Keys.is refl)
       | in-Tries w ↦ w.result-is ∙ sym (rw w.in-Tries.is refl)

@@ -7,7 +7,7 @@ use Rattle.pop_tries.proofs.replies.count_among.Given as goal
 
 -- the refutations so far, and those among the moves that follow, are all that are counted; those so far are held
 abbrev pub invariant-loop-by : goal.invariant-loop-by
-invariant-loop-by g l = (l.desk.board ≡ l.fn.desk.board) × (l.desk.frames.items ≡ l.fn.desk.frames.items) × IfSome l.known (λ k. IsPlaceIn g.R.Rules.rule l.fn.desk.board k)
+invariant-loop-by g l = (l.desk.board ≡ l.fn.desk.board) × (l.desk.frames.items ≡ l.fn.desk.frames.items) × IfSome l.cursor (λ k. IsPlaceIn g.R.Rules.rule l.fn.desk.board k)
     × (l.count ≤ l.fn.tally.most)
     × (l.count + length (filter (refutes_among g.R.Rules.rule l.fn.contest l.fn.counted l.fn.desk.board) (moves_after g.R.Rules.rule l.fn.desk.board l.place))
     ≡ l.fn.tally.count + length (filter (refutes_among g.R.Rules.rule l.fn.contest l.fn.counted l.fn.desk.board) (legal_moves g.R.Rules.rule l.fn.desk.board)))

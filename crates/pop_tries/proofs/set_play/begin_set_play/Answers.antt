@@ -12,7 +12,7 @@ returns-then-not-set_up g c =
     let barred : is_impossible_phase g.R.Rules.rule c.args.task.now.problem Set ≡ true = grind (arith, c.set_up.ensures.possible, c.if-not-set_up.true) in
     let at : c.set_up.new.board ≡ play_start c.args.task.now.problem = grind (arith, c.set_up.ensures.board, c.if-not-set_up.true) in
     with_event g.R.Rules.rule c.args.task.now _ _ _ _ _ (c.requires.holds.0, record { board_at = at; none = c.requires.holds.1.none })
-    _ (set_event (opening Set)) (left_barred _ g.R.Rules.rule c.args.task.now _ _ barred) refl
+    _ (set_event (opening Set)) (left_barred g.R.Rules.rule c.args.task.now _ _ barred) refl
 
 pub returns : goal.returns
 unfolding HoldsAt HoldsAtStage
@@ -25,4 +25,4 @@ returns g c =
     let cut = paths_begin g.R.Rules.rule c.args.task.now.problem c.requires.is_task.sound _ _ _ c.requires.holds.1.none c.push-2.ensures.items
     (search rules) (search rules) in
     with_event g.R.Rules.rule c.args.task.now _ _ _ _ _ (c.requires.holds.0, (walks, omega arith, search rules))
-    _ (set_event (opening Set)) (left_begun _ g.R.Rules.rule c.args.task.now _ _ _ (search rules) possible cut) refl
+    _ (set_event (opening Set)) (left_begun g.R.Rules.rule c.args.task.now _ _ _ (search rules) possible cut) refl

@@ -12,7 +12,7 @@ unfolding HoldsAt
 returns-in-Some g c =
     let gives = rw c.in-Some.is at c.advance.ensures.gives in
     with_event g.R.Rules.rule c.args.task.now _ _ _ _ _ (c.requires.holds.0, c.advance.ensures.standing) _ (set_event gives.bare)
-    (left_goes_on _ g.R.Rules.rule c.args.task.now _ _ _ _ gives.bare gives.left) (ap Set gives.event_is)
+    (left_goes_on g.R.Rules.rule c.args.task.now _ _ _ _ gives.bare gives.left) (ap Set gives.event_is)
 
 pub returns-in-None : goal.returns-in-None
 unfolding HoldsAt rank
@@ -21,5 +21,5 @@ returns-in-None g c =
     let none = none_after g.R.Rules.rule c.args.task.now.problem _ _ _ c.advance.ensures.standing gives.2 in
     rw c.beginning_of_keys.ensures (without_event g.R.Rules.rule c.args.task.now _ _ _ _ _
     (c.requires.holds.0, record { board_at = gives.1; none = none_reversed _ none }, tt, unknown_keys g.R.Rules.rule (contest_of c.args.task.now) c.args.task.now.most (play_start c.args.task.now.problem) _ refl)
-    (search (rules, left_ends g.row.R.Denot g.R.Rules.rule c.args.task.now c.args.stage c.args.desk.now.frames.items c.advance.new.frames.items gives.0))
+    (search (rules, left_ends g.R.Rules.rule c.args.task.now c.args.stage c.args.desk.now.frames.items c.advance.new.frames.items gives.0))
     (omega arith))

@@ -9,7 +9,7 @@ use Rattle.pop_tries.proofs.threats.stops_one.Given as goal
 -- Black has passed; whether the reply stops a threat depends on the threats still to come
 abbrev pub invariant-loop-tried : goal.invariant-loop-tried
 invariant-loop-tried g l = (l.desk.board ≡ set_start l.fn.desk.board) × (l.crossed ≡ l.fn.desk.board.crossed) × (l.desk.frames.items ≡ l.fn.desk.frames.items)
-    × IfSome l.known (λ k. IsPlaceIn g.R.Rules.rule (set_start l.fn.desk.board) k)
+    × IfSome l.cursor (λ k. IsPlaceIn g.R.Rules.rule (set_start l.fn.desk.board) k)
     × (list_any (λ t. not (works l.fn.contest.battle (game_in g.R.Rules.rule l.fn.contest) l.fn.contest.stipulation.n (chess_passing g.R.Rules.rule)
     (moves_of l.threat.length) (position_after g.R.Rules.rule l.fn.desk.board l.fn.by) t))
     (filter (λ m. keeps_win l.fn.contest.battle (game_in g.R.Rules.rule l.fn.contest) (moves_of l.threat.length)

@@ -31,7 +31,7 @@ unfolding HoldsAtStage
 event_at-requires g c =
     let is = (rw c.in-Within.is at c.requires.standing).2 in
     let w = events.walks-are c.args.problem.now c.in-Within.walk is _ _ _ _ _ _ _ c.if-walk_on.ensures.walks in
-    search (rules, events.plan-is, events.deep-given, events.shallow-given, w)
+    search (rules, events.mode-is, events.deep-given, events.shallow-given, w)
 
 pub returns-then-walk_on : goal.returns-then-walk_on
 unfolding HoldsAtStage left_of
@@ -39,7 +39,7 @@ returns-then-walk_on g c =
     let stands = rw c.in-Within.is at c.requires.standing in
     let walk = c.in-Within.walk in
     let w = events.walks-are c.args.problem.now walk stands.2 _ _ _ _ _ _ _ c.if-walk_on.ensures.walks in
-    let plan = events.plan-is c.args.problem.now walk stands.2 in
+    let mode = events.mode-is c.args.problem.now walk stands.2 in
     let half_moves = events.half_moves-are c.args.problem.now walk stands.2 in
     let deep = events.deep-given g.R.Rules.rule c.args.problem.now walk _ _ _ _ stands.1 w in
     record {
@@ -47,7 +47,7 @@ returns-then-walk_on g c =
       gives = rw c.in-Within.is (events.found-gives g.R.Rules.rule c.args.problem.now walk _ _ deep w.walking _ _ w _ (search rules) _ (search rules) _
           (search rules));
       counts = rw c.in-Within.is (opened.counts-given g.R.Rules.rule c.args.problem.now _ walk _ _ _ _ _
-          (rw (plan, half_moves) at c.walk_on.ensures.counts) _ _ _ (search rules));
+          (rw (mode, half_moves) at c.walk_on.ensures.counts) _ _ _ (search rules));
     }
 
 pub returns-else-walk_on : goal.returns-else-walk_on
@@ -56,13 +56,13 @@ returns-else-walk_on g c =
     let stands = rw c.in-Within.is at c.requires.standing in
     let walk = c.in-Within.walk in
     let w = events.walks-are c.args.problem.now walk stands.2 _ _ _ _ _ _ _ c.if-walk_on.ensures.walks in
-    let plan = events.plan-is c.args.problem.now walk stands.2 in
+    let mode = events.mode-is c.args.problem.now walk stands.2 in
     let half_moves = events.half_moves-are c.args.problem.now walk stands.2 in
     record {
       standing = search rules;
       gives = rw c.in-Within.is (events.ended-gives g.R.Rules.rule c.args.problem.now walk _ _ _ _ w _ c.end.ensures.stage _ _ c.total.ensures _ _);
       counts = rw (c.in-Within.is, events.left-ended g.R.Rules.rule c.args.problem.now walk _ _ _ _ w) (opened.counts-ended g.R.Rules.rule
-          c.args.problem.now _ walk _ _ _ _ _ (rw (plan, half_moves) at c.walk_on.ensures.counts) _ _
+          c.args.problem.now _ walk _ _ _ _ _ (rw (mode, half_moves) at c.walk_on.ensures.counts) _ _
           (events_after g.R.Rules.rule c.args.problem.now walk) c.end.ensures.stage
           stands.1 (w.over refl));
     }

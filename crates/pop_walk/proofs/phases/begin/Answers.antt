@@ -1,5 +1,5 @@
 unfoldable use Rattle.pop_walk.specs.ties.Walk.{AreEnds}
-use Rattle.pop_walk.proofs.Words.{ap, Walk, HoldsAtStage, rules, left_of, phase_events, IsLinked, IsRoomy, AreKnown, position}
+use Rattle.pop_walk.proofs.Words.{ap, Walk, HoldsAtStage, rules, left_of, phase_events, IsLinked, IsRoomy, AreCursors, position}
 use Rattle.pop_walk.proofs.Walking as walking
 use Rattle.pop_walk.proofs.Events as events
 use Rattle.pop_walk.proofs.Opened as opened
@@ -14,7 +14,7 @@ unfolding left_of phase_events
 returns-then-not-set_up-clause-left g c = search rules
 
 pub returns-clause-standing : goal.returns-clause-standing
-unfolding HoldsAtStage IsLinked IsRoomy AreKnown AreEnds position
+unfolding HoldsAtStage IsLinked IsRoomy AreCursors AreEnds position
 returns-clause-standing g c = search (rules, walking.reverse-push, start_sound)
 
 pub returns-clause-left : goal.returns-clause-left

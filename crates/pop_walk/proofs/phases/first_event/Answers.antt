@@ -6,14 +6,14 @@ pub event_at-event-requires : goal.event_at-event-requires
 unfolding HoldsAtStage
 event_at-event-requires g c =
     let s = c.requires.standing in
-    let plan = events.plan-is c.args.problem.now c.args.walk s.1 in
+    let mode = events.mode-is c.args.problem.now c.args.walk s.1 in
     let deep : 2 ≤ length c.args.frames.now = omega (arith, length-reverse c.args.frames.now, s.2) in
     record {
-      plan = plan;
+      mode = mode;
       deep = deep;
       shallow = events.first-shallow g.R.Rules.rule c.args.problem.now c.args.walk c.args.frames.now _ deep s.0 c.requires.sound;
       walking = (_, s.0);
-      ended = rw plan s.3;
+      ended = rw mode s.3;
     }
 
 pub returns : goal.returns

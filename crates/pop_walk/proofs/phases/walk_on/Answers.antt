@@ -18,7 +18,7 @@ returns-then-step g c =
     let s = c.step.ensures.steps _ c.loop-frames.invariant.0 in
     let w = kept.walks_given g.R.Rules.rule _ _ _ _ _ c.loop-frames.invariant.1 c.still_to_begin-limit.result _ _ _ s c.if-step.true
     (omega (arith, l, some))
-    (rw (c.requires.plan, l, ← c.len.ensures.value)
+    (rw (c.requires.mode, l, ← c.len.ensures.value)
     (sym c.limit_ends_phase.ensures ∙ c.if-not-limit_ends_phase.true)) in
     let counts = counts_then-both _ _ _ _ _ _ _ c.loop-frames.invariant.2 (c.step.ensures.counts _ c.loop-frames.invariant.0) in
     search (rules, w, s, counts, c.still_to_begin-limit.ensures)
@@ -26,7 +26,7 @@ returns-then-step g c =
 pub returns-else-not-limit_ends_phase : goal.returns-else-not-limit_ends_phase
 returns-else-not-limit_ends_phase g c =
     let w = kept.walks_ended g.R.Rules.rule _ _ _ _ _ c.loop-frames.invariant.1 c.still_to_begin-limit.result _ c.loop-frames.invariant.0
-    (inr (rw (c.requires.plan, length-reverse c.loop-frames.frames.items, ← c.len.ensures.value)
+    (inr (rw (c.requires.mode, length-reverse c.loop-frames.frames.items, ← c.len.ensures.value)
     (sym c.limit_ends_phase.ensures ∙ c.if-not-limit_ends_phase.false))) in
     search (rules, w, c.still_to_begin-limit.ensures)
 

@@ -3,7 +3,7 @@ use Rattle.pop_walk.proofs.Paths as paths
 use Rattle.pop_walk.proofs.showing.line.Goals as goal
 
 pub loop-k-init : goal.loop-k-init
-loop-k-init g c = search (rules, paths.first-path, paths.first-position, c.new-line.ensures, c.take_all_back.ensures.start, c.take_all_back.ensures.well_formed)
+loop-k-init g c = search (rules, paths.first-path, paths.first-position, c.new-line.ensures, c.unplay_all.ensures.start, c.unplay_all.ensures.well_formed)
 
 pub play_shown-requires-clause-legal : goal.play_shown-requires-clause-legal
 play_shown-requires-clause-legal g c =

@@ -11,7 +11,7 @@ returns-clause-counts g c =
     let after = c.opened_after-search_state.result in
     elim c.match-tested.branch [
       | in-Some+else-not-value_after w ↦
-          let test : HasCounted before between (smallest_tree w.in-Some.battle (chess c.args.plan.goal g.R.Rules.rule) c.args.left
+          let test : HasCounted before between (smallest_tree w.in-Some.battle (chess c.args.mode.goal g.R.Rules.rule) c.args.left
           (position_after g.R.Rules.rule c.args.board.now c.args.by)) = search rules in
           search (rules, test)
       | in_default w ↦

@@ -7,7 +7,7 @@ begin_after-stage-requires g c =
     let s = c.requires.seeking in
     let begun = part.is-beginning g.R.Rules.rule c.args.problem.now c.requires.sound c.args.phase _ _ _ s.1 s.2 c.requires.«open» _ c.requires.legal
     c.requires.battle in
-    (search rules, (search rules, (c.requires.sound, (c.requires.room, (begun, (c.requires.legal, search rules))))))
+    (search rules, (c.requires.sound, (c.requires.room, (begun, (c.requires.legal, search rules)))))
 
 pub invariant_of-result : goal.invariant_of-result
 invariant_of-result g c =

@@ -16,7 +16,7 @@ is_simple_command = refl
 command_is : (c : goal.After-try_get_matches_from) → app_of c.in_ok-command.command ≡ command
 unfolding command
 command_is c = c.in_ok-command.ensures _ (c.with_option-command-4.ensures _ (c.with_option-command-3.ensures _ (c.with_option-command-2.ensures _
-    (c.with_option-command.ensures _ (c.with_flag-command.ensures _ c.new-command.ensures.app)))))
+    (c.with_option-command.ensures _ (c.with_flag-command-2.ensures _ (c.with_flag-command.ensures _ c.new-command.ensures.app))))))
 
 pub returns-clause-rows : goal.returns-clause-rows
 returns-clause-rows c = let parse = c.try_get_matches_from in

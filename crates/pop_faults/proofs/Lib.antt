@@ -1,0 +1,3 @@
+pub mod Excluded
+pub mod Listed
+pub mod theorems

@@ -1,0 +1,2 @@
+pub mod FaultList
+pub mod ties

@@ -1,0 +1,2 @@
+pub mod FaultRuns
+pub mod ReadItems
