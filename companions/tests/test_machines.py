@@ -262,6 +262,22 @@ class OnMachines(unittest.TestCase):
         self.assertEqual(self.resumed(pops, pops), (0, b"", ""))
         self.is_solved()
 
+    def test_a_program_on_a_machine_that_is_changed_during_the_run(self) -> None:
+        """The reports may be of two programs: they are no report, and no run goes on with them."""
+        there = self.room / "there"
+        changes = f"sed '$s/$/ #/' '{there}' > '{there}.new'; chmod +x '{there}.new'; mv '{there}.new' '{there}'"
+        stand_in(there, f'text=$(cat)\ncase $text in *Title*) {changes} ;; esac\n'
+                        f'printf "%s" "$text" | \'{support.pops()}\' "$@"\n')
+        (self.room / "x.pop").write_bytes(input_of(MATE.format(1)))
+        journal = self.room / "x.report.journal"
+        to_do = f"the reports in {journal} may be of two programs, remove it"
+        said = f"{ANOTHER.format('one')}pops-many: pops on one was changed during the run: {to_do}\n"
+        self.assertEqual(self.resumed(support.pops(), str(there)), (6, b"", said))
+        self.assertFalse((self.room / "x.report").exists())
+        outcome = self.resumed(support.pops(), str(there))
+        self.assertEqual((outcome.status, outcome.output), (2, b""))
+        self.assertIn(f"{journal} is of a run during which a program was changed", outcome.error)
+
     def test_a_machine_without_sha256sum_is_taken(self) -> None:
         """It isn't known which program it has."""
         pops = self.begun()

@@ -154,9 +154,9 @@ class StoppedError(CommandError):
 class ChangedError(CommandError):
     """Ends a run during which a program was changed: its reports may be of two."""
 
-    def __init__(self, program: str, to_do: str):
+    def __init__(self, program: str, journal: Journal):
+        to_do = f"the reports in {journal.path} may be of two programs, remove it"
         super().__init__(Status.UNFINISHED, f"{program} was changed during the run: {to_do}")
-        self.program = program
 
 
 def try_out(targets: Sequence[Target]) -> None:
@@ -314,6 +314,7 @@ class Solving:
             raise
         joined = Joined(journal, files.reports, output)
         joined.refuse = lambda: self._refuse_changed(journal)
+        joined.holds_files = elsewhere is not None
         try:
             return self._go(journal, joined, files.table, elsewhere)
         except ChangedError:
@@ -324,13 +325,16 @@ class Solving:
             raise
 
     def _refuse_changed(self, journal: Journal) -> None:
-        """Ends the run where one of its programs was changed meanwhile."""
+        """Ends the run where one of its programs here was changed meanwhile."""
         for program in self._known:
             if program.is_changed:
-                raise ChangedError(
-                    program.program,
-                    f"the reports in {journal.path} may be of two programs, remove it",
-                )
+                raise ChangedError(program.program, journal)
+
+    def _refuse_changed_elsewhere(self, journal: Journal, where: Optional[Elsewhere]) -> None:
+        """Ends the run where a program on another machine was changed meanwhile."""
+        program = where.machines.changed() if where is not None else None
+        if program is not None:
+            raise ChangedError(program, journal)
 
     def _go(
         self, journal: Journal, joined: Joined, index: Optional[Target], where: Optional[Elsewhere]
@@ -345,6 +349,8 @@ class Solving:
             finally:
                 kept_in = joined.write_unfinished()
             self._refuse_changed(journal)
+            self._refuse_changed_elsewhere(journal, where)
+            joined.write_held()
             if joined.complete and index is not None:
                 write_index(index, self._tasks, journal)
             complete = joined.complete

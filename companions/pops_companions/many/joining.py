@@ -51,6 +51,8 @@ class Joined:
         self._streamed = 0
         # Returns what is known of an unfinished problem in parts, and how far it is.
         self.in_parts: Callable[[int], Optional[tuple[bytes, str]]] = lambda place: None
+        # Whether files wait for `write_held`: other machines say only at the end what they had.
+        self.holds_files = False
         # Raises what keeps a report from being written to its file.
         self.refuse: Callable[[], None] = lambda: None
 
@@ -68,9 +70,22 @@ class Joined:
             self._stream(report)
         # (a report that lacks a task is never complete, so that the journal stays)
         if self._unsettled[id(report)] == 0 and self._is_settled(report):
-            if report.file is not None:
-                self._write(report, report.file)
-            self._to_write.remove(id(report))
+            if report.file is not None and self.holds_files:
+                return
+            self._close(report)
+
+    def write_held(self) -> None:
+        """Writes the files that were held back."""
+        self.holds_files = False
+        for report in self._reports:
+            if id(report) in self._to_write and self._is_settled(report):
+                self._close(report)
+
+    def _close(self, report: Report) -> None:
+        """Writes the file of a report, where it has one: nothing of the report is left to write."""
+        if report.file is not None:
+            self._write(report, report.file)
+        self._to_write.remove(id(report))
 
     def _is_settled(self, report: Report) -> bool:
         return all(map(self._journal.is_settled, report.tasks.places))

@@ -346,6 +346,17 @@ class Machines:
         if others:
             self._say(f"{name} on {', '.join(others)} is another program than {name} here")
 
+    def changed(self) -> Optional[str]:
+        """Returns a program on a machine, as `pops on one`, that isn't the one that was there when the run
+        began. A program that isn't known is taken for the same.
+        """
+        for login in self.alive:
+            now = self._probed(login).checksums
+            for place, (name, checksum) in enumerate(zip(_PROGRAMS, now)):
+                if checksum and self._checksum(login, place) not in ("", checksum):
+                    return f"{name} on {machine_of(login)}"
+        return None
+
     def keep_to(self, is_from: Callable[[str, str], bool]) -> None:
         """Leaves out the machines with another program than a run had there before, by the program's
         name. A program that isn't known is taken for the same.
