@@ -4,7 +4,6 @@ import os
 import signal
 import subprocess
 import sys
-import tempfile
 import threading
 import time
 import unittest
@@ -32,19 +31,12 @@ ChildProcess(sys.argv[1:], subprocess.PIPE, subprocess.PIPE).outcome(b"")
 _GROUP = "timeout 1800 sleep 1800"
 
 
-class Ended(unittest.TestCase):
-    def setUp(self) -> None:
-        room = tempfile.TemporaryDirectory()
-        self.addCleanup(room.cleanup)
-        self.room = Path(room.name)
-
+class Ended(support.InRoom):
     def begun(self, text: str, as_script: bool) -> ChildProcess:
         """A shell that does so, or a script."""
         words = ["/bin/sh", "-c", text]
         if as_script:
-            words = [str(self.room / "program")]
-            Path(words[0]).write_text(f"#!/bin/sh\n{text}\n", encoding="utf-8")
-            os.chmod(words[0], 0o755)
+            words = [self.write_program("program", f"#!/bin/sh\n{text}\n")]
         child = ChildProcess(words, PIPE, PIPE)
         self.addCleanup(sessions.end, child.run.pid)
         return child
@@ -126,20 +118,17 @@ class Ended(unittest.TestCase):
                 wait_for(lambda process=process: not sessions.members(process))  # type: ignore[misc]
 
     def test_what_left_them_where_the_companion_is_killed(self) -> None:
-        noted, program = self.room / "noted", self.room / "program"
-        program.write_text(f"#!/bin/sh\n{_LEAVES.format(noted=noted, end='wait')}\n")
-        program.chmod(0o755)
-        run = subprocess.Popen([sys.executable, "-c", _RUNS, str(program)], cwd=support.COMPANIONS)
+        noted = self.room / "noted"
+        program = self.write_program("program", f"#!/bin/sh\n{_LEAVES.format(noted=noted, end='wait')}\n")
+        run = subprocess.Popen([sys.executable, "-c", _RUNS, program], cwd=support.COMPANIONS)
         process = self.noted(noted)
         run.kill()
         run.communicate()
         wait_for(lambda: not sessions.members(process))
 
     def test_a_watcher_that_is_killed_is_replaced(self) -> None:
-        program = self.room / "program"
-        program.write_text(f"#!/bin/sh\n{_LEAVES.format(noted=self.room / 'noted', end='wait')}\n")
-        program.chmod(0o755)
-        run = subprocess.Popen([sys.executable, "-c", _RUNS, str(program)], cwd=support.COMPANIONS)
+        program = self.write_program("program", f"#!/bin/sh\n{_LEAVES.format(noted=self.room / 'noted', end='wait')}\n")
+        run = subprocess.Popen([sys.executable, "-c", _RUNS, program], cwd=support.COMPANIONS)
         process = self.noted(self.room / "noted")
         self.addCleanup(sessions.end, process)
         wait_for(lambda: watchers(run.pid))

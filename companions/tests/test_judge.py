@@ -7,8 +7,6 @@ import re
 import signal
 import subprocess
 import sys
-import tempfile
-import unittest
 from pathlib import Path
 from unittest import mock
 
@@ -28,20 +26,15 @@ TRIES_OF_ONE = (
 NO_HURRY = ["--seconds", str(support.PATIENCE)]
 
 
-class Judging(unittest.TestCase):
+class Judging(support.InRoom):
     def setUp(self) -> None:
-        room = tempfile.TemporaryDirectory()
-        self.addCleanup(room.cleanup)
-        self.room = Path(room.name)
+        super().setUp()
         self.text = self.room / "some.pop"
         self.text.write_bytes(ONE + TWO)
         self.sheet = self.room / "sheet.html"
 
     def script(self, name: str, text: str) -> str:
-        path = self.room / name
-        path.write_text("#!/bin/sh\n" + text)
-        path.chmod(0o755)
-        return str(path)
+        return self.write_program(name, "#!/bin/sh\n" + text)
 
     def judged(self, *words: str, pops: str = "", text: str = "") -> support.Outcome:
         words = ("--pops", pops or support.pops(), "-o", str(self.sheet), *words)

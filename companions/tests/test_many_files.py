@@ -2,7 +2,6 @@
 
 import subprocess
 import sys
-import unittest
 from pathlib import Path
 from unittest import mock
 
@@ -198,8 +197,7 @@ class Several(SixProblems):
         journal = Path(f"{self.report}.journal")
         pops = self.room / "pops"
         for then, left in (("", None), (f"echo another > '{journal}'", b"another\n")):
-            pops.write_text(f"#!/bin/sh\nrm -f '{journal}'\n{then}\nexec '{support.pops()}' \"$@\"\n")
-            pops.chmod(0o755)
+            support.write_program(pops, f"#!/bin/sh\nrm -f '{journal}'\n{then}\nexec '{support.pops()}' \"$@\"\n")
             outcome = self.many(str(pops), "--jobs", "1")
             self.assertEqual((outcome.status, outcome.error), (0, ""))
             self.assertEqual(self.report.read_bytes(), self.wanted)
