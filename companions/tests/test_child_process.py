@@ -15,6 +15,7 @@ from pops_companions.many import sessions
 from pops_companions.many.bundle_run import BundleRun
 from pops_companions.many.bundles import Bundles
 from pops_companions.many.child_process import ChildProcess, Outcome, rest_of
+from pops_companions.many.program import RunError, Runs
 from tests import support
 from tests.six_problems import wait_for, watchers
 from tests.test_bundles import MATE, input_of, tasks
@@ -149,6 +150,16 @@ class Ended(support.InRoom):
         self.assertIsNone(child.poll())
         os.close(reading)
         os.close(writing)
+
+    def test_where_the_system_lists_no_processes(self) -> None:
+        """What may start others isn't started."""
+        script = self.write_program("program", f"#!/bin/sh\ntouch '{self.room}/begun'\n")
+        why = "program can't be run: /proc isn't mounted: what it starts may outlive it"
+        with mock.patch.object(sessions, "are_listed", return_value=False):
+            with self.assertRaisesRegex(RunError, why):
+                Runs("program", [script]).outcome([], b"")
+            self.assertEqual(Runs("pops", [support.pops()]).outcome([], b"").status, 1)
+        self.assertFalse((self.room / "begun").exists())
 
     def test_what_is_in_a_pipe_that_is_open(self) -> None:
         reading, writing = os.pipe()

@@ -158,12 +158,14 @@ class Judging(support.InRoom):
         # The first one is cut within its head, which its verdict has to do without.
         shows = "case $(cat) in *'A help'*) printf 'problem 1\\nh#1\\nplay\\n' ;; esac"
         slow = self.script("slow", f"{shows}\n{shown(self.room)}\nexec sleep 6000\n")
-        outcome = self.judged("--seconds", "0.5", pops=slow)
-        self.assertEqual(outcome.status, 1)
-        page = self.sheet.read_text("utf-8")
-        for number, line in ((1, 1), (2, ONE.count(b"\n") + 1)):
-            self.assertIn(f"stopped after 0.5 s (problem {number} of {self.text}, line {line})", page)
-        self.assertNotIn("input.pop", page)
+        for name in ("sheet.html", "a\nb\\c.html", "\udcff.html"):
+            self.sheet = self.room / name
+            outcome = self.judged("--seconds", "0.5", pops=slow)
+            self.assertEqual(outcome.status, 1)
+            page = self.sheet.read_text("utf-8")
+            for number, line in ((1, 1), (2, ONE.count(b"\n") + 1)):
+                self.assertIn(f"stopped after 0.5 s (problem {number} of {self.text}, line {line})", page)
+            self.assertNotIn("input.pop", page)
 
     def test_a_program_that_fails_is_told_of_the_collection(self) -> None:
         outcome = self.judged(pops=self.script("dies", "cat > /dev/null\nkill -9 $$\n"))
@@ -369,7 +371,8 @@ class Judging(support.InRoom):
                 outcome = self.judged("--jobs", "1", "--pops-tries", paths["tries"], *NO_HURRY, pops=paths["pops"])
                 said = f"{paths[changed]} was changed during the run: nothing is kept, run it again"
                 self.assertEqual(outcome, (6, b"", f"pops-judge: {said}\n"))
-                self.assertEqual(self.files(), ["pops", "some.pop", "tries"])
+                left = [it for it in self.files() if not it.endswith(".new")]
+                self.assertEqual(left, ["pops", "some.pop", "tries"])
 
     def test_other_programs_are_not_taken_up(self) -> None:
         work = self.unfinished()

@@ -185,6 +185,15 @@ class OnMachines(support.InRoom):
         said = ANOTHER.format("one, two")
         self.assertEqual(self.many(text, failing), (0, wanted.output, said))
 
+    def test_what_a_user_wants_of_gnu_parallel_elsewhere(self) -> None:
+        text = input_of(*[MATE.format(number) for number in range(3)])
+        wanted = support.run([support.pops()], text).output
+        for wants in ("--tag", f"--results {self.room}/results", "--dry-run", "--pipe", "--sshlogin :"):
+            variables = {"PARALLEL": wants, "PARALLEL_ENV": "exit 9;"}
+            with self.subTest(wants), mock.patch.dict(os.environ, variables):
+                self.assertEqual(self.many(text), (0, wanted, ""))
+        self.assertFalse((self.room / "results").exists())
+
     def test_a_machine_without_the_program_is_left_out(self) -> None:
         script = f'[ "$MACHINE" = one ] || exit 127\nexec \'{support.pops()}\' "$@"\n'
         there = self.write_program("there", f"#!/bin/sh\n{script}")

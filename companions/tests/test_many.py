@@ -233,6 +233,18 @@ class Interruptions(SixProblems):
             self.assertEqual((outcome.status, outcome.output), (2, b""))
             self.assertIn(f"{self.journal} is of {why}", outcome.error)
 
+    def test_a_program_that_is_changed_and_changed_back_during_the_run(self) -> None:
+        """Nothing of the other program is kept."""
+        pops, kept = self.room / "stand_in", self.room / "kept"
+        back = f"text=$(cat)\nmv '{kept}' '{pops}'\nprintf '%s' \"$text\" | '{support.pops()}' --no-board \"$@\""
+        other = self.write_program("other", f"#!/bin/sh\n{back}\n")
+        self.stand_in(f"mv '{pops}' '{kept}'; mv '{other}' '{pops}'")
+        outcome = self.many(str(pops))
+        self.assertEqual(outcome.status, 6)
+        self.assertIn(f"pops-many: {pops} was changed during the run: ", outcome.error)
+        self.assertFalse(self.report.exists())
+        self.assertIn(self.kept(), (3, 4))
+
     def test_a_cut_report_is_no_report(self) -> None:
         outcome = self.many(self.stand_in("echo 'problem 1'; exit 0"))
         self.assertEqual(outcome.status, 6)
@@ -417,7 +429,18 @@ class Identity(support.InRoom):
                     self.assertNotEqual(identity(program), before.identity)
                     self.assertTrue(before.is_changed)
                     self.write_program(real, "1")
-                    self.assertFalse(before.is_changed)
+                    self.assertTrue(before.is_changed)
+                    self.assertFalse(Known(program).is_changed)
+
+    def test_a_program_that_comes_again(self) -> None:
+        """It isn't another one."""
+        known = Known(self.write_program("real", "1"))
+        for _ in range(2):
+            self.write_program("new", "1")
+            (self.room / "new").replace(self.room / "real")
+            self.assertFalse(known.is_changed)
+        (self.room / "real").unlink()
+        self.assertFalse(known.is_changed)
 
     def test_scripts_that_name_each_other(self) -> None:
         names = [str(self.room / str(number)) for number in range(100)]
