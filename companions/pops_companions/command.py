@@ -122,7 +122,7 @@ def _ended(name: str, command: Callable[[list[str]], int]) -> int:
         if sys.flags.dev_mode:
             raise
         message, status = _of_fault(error)
-    _say(f"{name}: {message}\n")
+    print(f"{name}: {message}", file=sys.stderr, flush=True)
     return status
 
 
@@ -175,13 +175,30 @@ def _rare_collections() -> Iterator[None]:
 
 
 class _Messages:
-    """Standard error, on which no name of a file and no text given commands the terminal."""
+    """Standard error, on which no name of a file and no text given commands the terminal.
+
+    Where nobody reads it, or it takes no more, nothing fails.
+    """
 
     def __init__(self, target: TextIO):
         self._target = target
 
     def write(self, text: str) -> int:
-        return self._target.write(_OBEYED.sub("\ufffd", text))
+        with self._dropping():
+            self._target.write(_OBEYED.sub("\ufffd", text))
+        return len(text)
+
+    def flush(self) -> None:
+        with self._dropping():
+            self._target.flush()
+
+    @contextmanager
+    def _dropping(self) -> Iterator[None]:
+        """Drops what the stream refuses, and all that comes later."""
+        try:
+            yield
+        except OSError:
+            _drop(self._target)
 
     def __getattr__(self, name: str) -> Any:
         return getattr(self._target, name)
@@ -197,15 +214,6 @@ def _harmless_messages() -> Iterator[None]:
             yield
         finally:
             sys.stderr = before
-
-
-def _say(text: str) -> None:
-    """Writes on standard error. If nobody reads it, nothing fails."""
-    try:
-        sys.stderr.write(text)
-        sys.stderr.flush()
-    except OSError:
-        pass
 
 
 def _status_of(command: Callable[[list[str]], int]) -> int:
@@ -259,7 +267,12 @@ def _close_output() -> None:
         if sys.stdout is not None:
             sys.stdout.flush()
     except OSError:
-        os.dup2(os.open(os.devnull, os.O_WRONLY), sys.stdout.fileno())
+        _drop(sys.stdout)
+
+
+def _drop(stream: TextIO) -> None:
+    """Lets a stream take all, and drop it."""
+    os.dup2(os.open(os.devnull, os.O_WRONLY), stream.fileno())
 
 
 def number_from_one(text: str) -> int:

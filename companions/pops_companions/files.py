@@ -1,6 +1,8 @@
 """Files that get their names once all of them is written."""
 
+import errno
 import os
+import re
 import stat
 import sys
 from collections.abc import Iterator
@@ -12,6 +14,9 @@ from typing import BinaryIO, Optional
 _NEW = os.O_RDWR | os.O_CREAT | os.O_EXCL | os.O_NOFOLLOW | os.O_CLOEXEC
 # Where Linux keeps the list of those who may read and write a file, beside its permissions.
 _LIST = "system.posix_acl_access"
+# Where the system names the files that a process has open, by the process and by their numbers.
+_OPEN_FILE = re.compile("/(?:dev|proc/([0-9]+)(?:/task/[0-9]+)?)/fd/([0-9]{1,9})")
+_MOST_LINKS = 40
 
 
 class Links(Enum):
@@ -24,8 +29,37 @@ class Links(Enum):
 
 
 def is_device(path: str) -> bool:
-    """Returns whether something is written as it is, as a device or a pipe."""
-    return os.path.exists(path) and not os.path.isfile(path)
+    """Returns whether something is written as it is, as a device, a pipe, or a file that is open."""
+    return _open_file(path) is not None or os.path.exists(path) and not os.path.isfile(path)
+
+
+def _open_file(path: str) -> Optional["re.Match[str]"]:
+    """Returns the process and the number of an open file to which a path leads, as /dev/stdout does.
+    """
+    for _ in range(_MOST_LINKS):
+        folder, name = os.path.split(path)
+        folder = os.path.realpath(folder)
+        if found := _OPEN_FILE.fullmatch(os.path.join(folder, name)):
+            return found
+        try:
+            path = os.path.join(folder, os.readlink(os.path.join(folder, name)))
+        except OSError:
+            return None
+    return None
+
+
+def _opened_device(path: str) -> BinaryIO:
+    """Opens a device for writing. A file that is open is written on where it is: what it has stays."""
+    found = _open_file(path)
+    if found is None:
+        return open(path, "wb")
+    process, number = found.groups()
+    if process not in (None, str(os.getpid())):
+        return open(path, "ab")
+    # (those that Python opens aren't inheritable: the user names none of them)
+    if not os.get_inheritable(int(number)):
+        raise OSError(errno.EBADF, os.strerror(errno.EBADF))
+    return os.fdopen(os.dup(int(number)), "wb")
 
 
 def real_of(path: str, links: Links) -> str:
@@ -48,7 +82,7 @@ def written_whole(
     an earlier run left under that name is removed.
     """
     if links is Links.FOLLOWED and is_device(path):
-        with open(path, "wb") as device:
+        with _opened_device(path) as device:
             yield device
         return
     real = real_of(path, links)

@@ -4,6 +4,8 @@ import re
 import unicodedata
 from collections.abc import Iterable
 
+from pops_companions.report.lines import in_a_line
+
 # What a text begins with that a spreadsheet computes, also in another width.
 _OF_FORMULAS = ("=", "+", "-", "@")
 _ENDS_OF_CELLS = ("\t", "\r", "\n")
@@ -19,8 +21,7 @@ def row_of(cells: Iterable[object]) -> str:
 
 
 def _cell(value: object) -> str:
-    text = uncomputed(value) if isinstance(value, str) else str(value)
-    return text.replace("\\", "\\\\").replace("\t", "\\t").replace("\n", "\\n")
+    return in_a_line(uncomputed(value) if isinstance(value, str) else str(value))
 
 
 def uncomputed(text: str) -> str:

@@ -4,9 +4,7 @@ import os
 import signal
 import subprocess
 import sys
-import tempfile
 import time
-import unittest
 from collections.abc import Callable
 from pathlib import Path
 
@@ -83,13 +81,11 @@ def heed_hangup() -> None:
     signal.signal(signal.SIGHUP, signal.SIG_DFL)
 
 
-class SixProblems(unittest.TestCase):
+class SixProblems(support.InRoom):
     """A room with an input of six problems."""
 
     def setUp(self) -> None:
-        room = tempfile.TemporaryDirectory()
-        self.addCleanup(room.cleanup)
-        self.room = Path(room.name)
+        super().setUp()
         self.input = self.room / "six.pop"
         self.input.write_bytes(SIX)
         self.report = self.room / "six.report"

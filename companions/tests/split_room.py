@@ -66,13 +66,6 @@ class SplitRoom(SixProblems):
         words = {"pops": support.pops(), "beginning": beginning, "before": before}
         stand_in(self.room / "stand_in", _POPS.format(**words, shown=shown(self.room)))
 
-    def write(self, name: str, text: str) -> str:
-        """Writes a program."""
-        path = self.room / name
-        path.write_text(text)
-        path.chmod(0o755)
-        return str(path)
-
     def tell(self, name: str, text: bytes) -> None:
         """Writes files of what pops-part writes for a problem."""
         folder = self.room / "told" / name

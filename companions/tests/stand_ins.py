@@ -2,10 +2,10 @@
 
 from pathlib import Path
 
+from tests import support
+
 
 def stand_in(path: Path, does: str) -> str:
     """Writes a program of the shell whose bytes don't depend on what it does: that is in another file."""
-    path.write_text(f"#!/bin/sh\n. '{path}.sh'\n")
-    path.chmod(0o755)
     Path(f"{path}.sh").write_text(does)
-    return str(path)
+    return support.write_program(path, f"#!/bin/sh\n. '{path}.sh'\n")

@@ -73,6 +73,25 @@ def run(words: Sequence[str], text: bytes = b"") -> Outcome:
     return Outcome(done.returncode, done.stdout, done.stderr.decode("utf-8", "replace"))
 
 
+def write_program(path: Path, text: str) -> str:
+    """Writes a program: a script with its first line. Its path."""
+    path.write_text(text, "utf-8")
+    path.chmod(0o755)
+    return str(path)
+
+
+class InRoom(unittest.TestCase):
+    """Tests that have a temporary folder each."""
+
+    def setUp(self) -> None:
+        room = tempfile.TemporaryDirectory()
+        self.addCleanup(room.cleanup)
+        self.room = Path(room.name)
+
+    def write_program(self, name: str, text: str) -> str:
+        return write_program(self.room / name, text)
+
+
 def said_on_terminal(
     words: Sequence[str], text: bytes = b"", columns: int = 0, look: Callable[[str], None] = lambda _: None
 ) -> tuple[int, str]:

@@ -1,10 +1,8 @@
 """Bundles of small problems in pops-many: the report stays that of pops, byte by byte."""
 
-import tempfile
 import unittest
 from collections.abc import Iterator, Sequence
 from contextlib import contextmanager
-from pathlib import Path
 from unittest import mock
 
 from pops_companions.many.bundles import Bundles, items_in, text_of
@@ -125,12 +123,7 @@ class Made(unittest.TestCase):
             self.assertIsNone(items_in(other, bundle[:3]))
 
 
-class Solved(unittest.TestCase):
-    def setUp(self) -> None:
-        room = tempfile.TemporaryDirectory()
-        self.addCleanup(room.cleanup)
-        self.room = Path(room.name)
-
+class Solved(support.InRoom):
     def many(self, text: bytes, *words: str) -> support.Outcome:
         (self.room / "x.pop").write_bytes(text)
         return run_here.companion("pops-many", *words, str(self.room / "x.pop"))

@@ -4,7 +4,6 @@ import os
 import signal
 import subprocess
 import sys
-import tempfile
 import threading
 import time
 import unittest
@@ -16,6 +15,7 @@ from pops_companions.many import sessions
 from pops_companions.many.bundle_run import BundleRun
 from pops_companions.many.bundles import Bundles
 from pops_companions.many.child_process import ChildProcess, Outcome, rest_of
+from pops_companions.many.program import RunError, Runs
 from tests import support
 from tests.six_problems import wait_for, watchers
 from tests.test_bundles import MATE, input_of, tasks
@@ -32,19 +32,12 @@ ChildProcess(sys.argv[1:], subprocess.PIPE, subprocess.PIPE).outcome(b"")
 _GROUP = "timeout 1800 sleep 1800"
 
 
-class Ended(unittest.TestCase):
-    def setUp(self) -> None:
-        room = tempfile.TemporaryDirectory()
-        self.addCleanup(room.cleanup)
-        self.room = Path(room.name)
-
+class Ended(support.InRoom):
     def begun(self, text: str, as_script: bool) -> ChildProcess:
         """A shell that does so, or a script."""
         words = ["/bin/sh", "-c", text]
         if as_script:
-            words = [str(self.room / "program")]
-            Path(words[0]).write_text(f"#!/bin/sh\n{text}\n", encoding="utf-8")
-            os.chmod(words[0], 0o755)
+            words = [self.write_program("program", f"#!/bin/sh\n{text}\n")]
         child = ChildProcess(words, PIPE, PIPE)
         self.addCleanup(sessions.end, child.run.pid)
         return child
@@ -126,20 +119,17 @@ class Ended(unittest.TestCase):
                 wait_for(lambda process=process: not sessions.members(process))  # type: ignore[misc]
 
     def test_what_left_them_where_the_companion_is_killed(self) -> None:
-        noted, program = self.room / "noted", self.room / "program"
-        program.write_text(f"#!/bin/sh\n{_LEAVES.format(noted=noted, end='wait')}\n")
-        program.chmod(0o755)
-        run = subprocess.Popen([sys.executable, "-c", _RUNS, str(program)], cwd=support.COMPANIONS)
+        noted = self.room / "noted"
+        program = self.write_program("program", f"#!/bin/sh\n{_LEAVES.format(noted=noted, end='wait')}\n")
+        run = subprocess.Popen([sys.executable, "-c", _RUNS, program], cwd=support.COMPANIONS)
         process = self.noted(noted)
         run.kill()
         run.communicate()
         wait_for(lambda: not sessions.members(process))
 
     def test_a_watcher_that_is_killed_is_replaced(self) -> None:
-        program = self.room / "program"
-        program.write_text(f"#!/bin/sh\n{_LEAVES.format(noted=self.room / 'noted', end='wait')}\n")
-        program.chmod(0o755)
-        run = subprocess.Popen([sys.executable, "-c", _RUNS, str(program)], cwd=support.COMPANIONS)
+        program = self.write_program("program", f"#!/bin/sh\n{_LEAVES.format(noted=self.room / 'noted', end='wait')}\n")
+        run = subprocess.Popen([sys.executable, "-c", _RUNS, program], cwd=support.COMPANIONS)
         process = self.noted(self.room / "noted")
         self.addCleanup(sessions.end, process)
         wait_for(lambda: watchers(run.pid))
@@ -160,6 +150,16 @@ class Ended(unittest.TestCase):
         self.assertIsNone(child.poll())
         os.close(reading)
         os.close(writing)
+
+    def test_where_the_system_lists_no_processes(self) -> None:
+        """What may start others isn't started."""
+        script = self.write_program("program", f"#!/bin/sh\ntouch '{self.room}/begun'\n")
+        why = "program can't be run: /proc isn't mounted: what it starts may outlive it"
+        with mock.patch.object(sessions, "are_listed", return_value=False):
+            with self.assertRaisesRegex(RunError, why):
+                Runs("program", [script]).outcome([], b"")
+            self.assertEqual(Runs("pops", [support.pops()]).outcome([], b"").status, 1)
+        self.assertFalse((self.room / "begun").exists())
 
     def test_what_is_in_a_pipe_that_is_open(self) -> None:
         reading, writing = os.pipe()

@@ -124,6 +124,76 @@ class Streams(unittest.TestCase):
             errors.seek(0)
             return status, errors.read()
 
+    def log_after(self, room: Path, words: list[str]) -> tuple[int, bytes, bytes]:
+        """Status, messages, and what a file has that had a line, with standard output at its end."""
+        log = room / "log"
+        log.write_bytes(b"old\n")
+        (room / "link").unlink(missing_ok=True)
+        (room / "link").symlink_to("/dev/stdout")
+        companion, *others = words
+        program = [sys.executable, str(support.COMPANIONS / companion)]
+        with log.open("ab") as output:
+            others = [it.replace("%", str(output.fileno())) for it in others]
+            done = subprocess.run([*program, *others], stdout=output, stderr=subprocess.PIPE, check=False)
+        self.assertEqual({it.name for it in room.iterdir()}, {"input", "report", "positions", "log", "link"})
+        return done.returncode, done.stderr, log.read_bytes()
+
+    def test_an_output_that_is_open_is_written_on(self) -> None:
+        kept = {"input": PROBLEM, "report": OF_THE_PROBLEM, "positions": POSITIONS[:80]}
+        with tempfile.TemporaryDirectory() as name:
+            room = Path(name)
+            for file, text in kept.items():
+                Path(room, file).write_bytes(text)
+            for companion, *words in OVERWRITING:
+                given = [it.replace("@", f"{room}/") for it in words[:-2]]
+                others = ("/dev/fd/1", "/proc/self/fd/1", f"{room}/link", f"/proc/{os.getpid()}/fd/%")
+                for output in ("/dev/stdout", *others[: 4 * (companion == "pops-test")]):
+                    with self.subTest(companion, output=output):
+                        after = self.log_after(room, [companion, *given, "-o", output])
+                        if companion == "pops-judge":
+                            self.assertEqual((after[0], after[2]), (2, b"old\n"))
+                            self.assertIn(b"the sheet needs the name of a file", after[1])
+                            continue
+                        wanted = self.log_after(room, [companion, *given])
+                        self.assertEqual(after, wanted)
+                        self.assertGreater(len(after[2]), 4)
+
+    def test_an_output_that_is_not_open(self) -> None:
+        """Nor one that only the companion has open."""
+        with tempfile.TemporaryDirectory() as room:
+            report = Path(room, "report")
+            report.write_bytes(OF_THE_PROBLEM)
+            for number in (3, 4, 5, 77, "9" * 30):
+                outcome = support.companion("pops-test", str(report), "-o", f"/dev/fd/{number}")
+                self.assertIn((outcome.status, outcome.output), ((2, b""), (3, b"")))
+                self.assertRegex(outcome.error, f"cannot write /dev/fd/{number}: |/dev/fd/{number} is named twice")
+            self.assertEqual(report.read_bytes(), OF_THE_PROBLEM)
+
+    @unittest.skipUnless(os.path.exists("/dev/full"), "no device that is full")
+    def test_messages_that_nobody_takes(self) -> None:
+        """What a companion makes is made all the same."""
+        latin = PROBLEM.replace(b"Pieces", b"Title Caf\xe9\nPieces")
+        report = support.run([support.pops()], latin).output
+        for companion, *words in (
+            ("pops-page", "@report"),
+            ("pops-sheet", "@input"),
+            ("pops-find", "@data", "--add", "@input"),
+            ("pops-test", "@none"),
+        ):
+            with self.subTest(companion), tempfile.TemporaryDirectory() as room:
+                Path(room, "report").write_bytes(report)
+                Path(room, "input").write_bytes(latin)
+                program = [sys.executable, str(support.COMPANIONS / companion)]
+                words = [it.replace("@", f"{room}/") for it in words]
+                wanted = support.run([*program, *words])
+                self.assertTrue(wanted.error)
+                reading, writing = os.pipe()
+                os.close(reading)
+                for errors in (open("/dev/full", "wb"), os.fdopen(writing, "wb")):
+                    with errors:
+                        done = subprocess.run([*program, *words], stdout=subprocess.PIPE, stderr=errors, check=False)
+                    self.assertEqual((done.returncode, done.stdout), wanted[:2])
+
     def test_closed_streams_are_told(self) -> None:
         command = f"'{sys.executable}' '{support.COMPANIONS / 'pops-page'}'"
         for closed, said in ((">&-", "standard output"), ("<&-", "standard input")):

@@ -229,8 +229,7 @@ class Pictures(unittest.TestCase):
             self.assertEqual((outcome.status, outcome.output), (3, b""))
             self.assertIn("--png needs rsvg-convert of librsvg", outcome.error)
             converter = Path(room) / "rsvg-convert"
-            converter.write_text("#!/bin/sh\necho no room >&2\nexit 4\n")
-            converter.chmod(0o755)
+            support.write_program(converter, "#!/bin/sh\necho no room >&2\nexit 4\n")
             outcome = self.pictures(room)
             self.assertEqual((outcome.status, outcome.output), (3, b""))
             told = f"pops-diagram: {converter} ended with 4: no room\n"

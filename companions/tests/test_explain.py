@@ -158,13 +158,12 @@ SAID = """problem 1 "Two": fault 2: unknown or misplaced word
 """
 
 
-class Command(unittest.TestCase):
+class Command(support.InRoom):
     def setUp(self) -> None:
-        room = tempfile.TemporaryDirectory()
-        self.addCleanup(room.cleanup)
-        self.input = Path(room.name) / "two.pop"
+        super().setUp()
+        self.input = self.room / "two.pop"
         self.input.write_bytes(FAULTY)
-        self.report = Path(room.name) / "two.report"
+        self.report = self.room / "two.report"
         self.report.write_bytes(support.run([support.pops(), str(self.input)]).output)
 
     def test_a_file_alone(self) -> None:
@@ -296,11 +295,8 @@ class Command(unittest.TestCase):
             self.assertIn(b"pops-explain", outcome.output)
 
     def test_a_program_that_writes_no_report(self) -> None:
-        with tempfile.TemporaryDirectory() as room:
-            program = Path(room, "pops")
-            program.write_text("#!/bin/sh\ncat > /dev/null\necho a line of others\n")
-            program.chmod(0o755)
-            outcome = support.companion("pops-explain", "--pops", str(program), text=b"BeginProblem\n")
+        program = self.write_program("pops", "#!/bin/sh\ncat > /dev/null\necho a line of others\n")
+        outcome = support.companion("pops-explain", "--pops", program, text=b"BeginProblem\n")
         self.assertEqual(outcome.status, 3)
         self.assertIn("found 'a line of others'", outcome.error)
 

@@ -3,12 +3,11 @@
 import os
 import struct
 import sys
-import tempfile
 import unittest
-from pathlib import Path
 from unittest import mock
 
 from pops_companions import files
+from tests import support
 
 _LIST = "system.posix_acl_access"
 _NOBODY = 0xFFFFFFFF
@@ -19,11 +18,9 @@ _ENTRIES = [
 _LISTED = struct.pack("<I", 2) + b"".join(struct.pack("<HHI", *entry) for entry in _ENTRIES)
 
 
-class Readers(unittest.TestCase):
+class Readers(support.InRoom):
     def setUp(self) -> None:
-        room = tempfile.TemporaryDirectory()
-        self.addCleanup(room.cleanup)
-        self.room = Path(room.name)
+        super().setUp()
         self.path = self.room / "kept"
         self.path.write_bytes(b"old")
 

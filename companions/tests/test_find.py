@@ -1,11 +1,15 @@
 """pops-find: collections in a file, what is found by words, by men, by play, and near a position."""
 
+import os
 import random
 import tempfile
+import threading
 import time
 import unittest
+from contextlib import closing
 from pathlib import Path
 from typing import Optional
+from unittest import mock
 
 from pops_companions.chess.men import Man, Square
 from pops_companions.find.boards import board_of, differences, men_of, variants
@@ -153,11 +157,10 @@ class Positions(unittest.TestCase):
                 self.assertEqual(differences(board(MORPHY), board(other)), wanted)
 
 
-class Near(unittest.TestCase):
+class Near(support.InRoom):
     def setUp(self) -> None:
-        room = tempfile.TemporaryDirectory()
-        self.addCleanup(room.cleanup)
-        self.path = str(Path(room.name) / "mine.db")
+        super().setUp()
+        self.path = str(self.room / "mine.db")
         self.collection = Collection(self.path, new=True)
         self.addCleanup(self.collection.close)
 
@@ -256,6 +259,59 @@ class Near(unittest.TestCase):
         self.assertEqual(len(self.collection.near(board(MORPHY))), 2)
 
 
+    def test_two_runs_that_add_the_same_file(self) -> None:
+        """The second waits for the first, and replaces its problems."""
+        self.found(MORPHY)
+        remove, has_begun = self.collection._remove, threading.Event()
+
+        def add() -> None:
+            with closing(Collection(self.path, new=False)) as second:
+                second._data.set_trace_callback(lambda it: has_begun.set() if it.startswith("BEGIN") else None)
+                second.add("some.pop", [entry(1, MORPHY.replace("Ra1", "Ra2"))])
+
+        def removed(source: str) -> None:
+            remove(source)
+            other.start()
+            self.assertTrue(has_begun.wait(support.PATIENCE))
+
+        other = threading.Thread(target=add)
+        with mock.patch.object(self.collection, "_remove", removed):
+            self.collection.add("some.pop", [entry(n, MORPHY.replace("Ra1", f"Rb{n}")) for n in (1, 2)])
+        other.join()
+        left = "SELECT count(*) FROM positions WHERE problem NOT IN (SELECT id FROM problems)"
+        self.assertEqual(self.collection._data.execute(left).fetchone(), (0,))
+        hits = self.collection.near(board(MORPHY.replace("Ra1", "Rb1")))
+        self.assertEqual([hit.text for hit in hits], ["white Rb1 on a2"])
+
+    def test_a_collection_that_another_run_writes(self) -> None:
+        self.found(MORPHY)
+        tried: list[str] = []
+        with mock.patch("pops_companions.find.collection._SECONDS_AT_ONCE", 0.01):
+            second = Collection(self.path, new=False)
+        self.addCleanup(second.close)
+
+        def trace(statement: str) -> None:
+            """Ends the other run where it is waited for."""
+            tried.append(statement)
+            if len(tried) == 3:
+                self.collection._data.rollback()
+
+        second._data.set_trace_callback(trace)
+        self.collection._data.execute("BEGIN EXCLUSIVE")
+        self.assertEqual(len(second.near(board(MORPHY))), 1)
+        self.assertGreater(len(tried), 3)
+        self.collection._data.execute("BEGIN IMMEDIATE")
+        with mock.patch("pops_companions.find.collection._MOST_SECONDS", 0):
+            with self.assertRaisesRegex(CollectionError, "^cannot write the collection: database is locked$"):
+                second.add("some.pop", [])
+
+    def test_positions_of_problems_that_are_gone(self) -> None:
+        """As older versions left them."""
+        self.found(MORPHY, MORPHY)
+        self.collection._data.execute("DELETE FROM problems WHERE number = 1")
+        self.assertEqual([hit.entry.number for hit in self.collection.near(board(MORPHY))], [2])
+
+
 class Play(unittest.TestCase):
     def test_keys_and_mates_of_a_report(self) -> None:
         report = (support.REPOSITORY / "examples" / "morphy_1856.report").read_bytes()
@@ -290,11 +346,9 @@ class Play(unittest.TestCase):
         self.assertIn(b"    mirrored left to right; the same key and mates\n", outcome.output)
 
 
-class Command(unittest.TestCase):
+class Command(support.InRoom):
     def setUp(self) -> None:
-        room = tempfile.TemporaryDirectory()
-        self.addCleanup(room.cleanup)
-        self.room = Path(room.name)
+        super().setUp()
         self.path = str(self.room / "mine.db")
         self.examples = support.REPOSITORY / "examples"
 
@@ -442,6 +496,33 @@ class Command(unittest.TestCase):
         self.assertIn("mine.db", outcome.error)
         with self.assertRaises(CollectionError):
             Collection(self.path, new=True)
+
+    def test_files_of_others_beside_a_collection(self) -> None:
+        self.added("morphy_1856.pop")
+        problem, target = str(self.examples / "morphy_1856.pop"), self.room / "target"
+        target.write_bytes(b"others")
+
+        def pipe(name: str) -> None:
+            os.mkfifo(name)
+
+        def link(name: str) -> None:
+            os.symlink(target, name)
+
+        def notes(name: str) -> None:
+            Path(name).write_bytes(b"my notes\n")
+
+        for make, why in ((notes, "isn't a file of SQLite"), (pipe, "isn't a file of SQLite"), (link, "cannot open")):
+            for end in ("-journal", "-wal", "-shm"):
+                name = self.path + end
+                make(name)
+                for words in (["--near", problem], ["--add", problem]):
+                    with self.subTest(name, words=words):
+                        outcome = self.run_on(*words)
+                        self.assertEqual((outcome.status, outcome.output), (3, b""))
+                        self.assertIn(why, outcome.error)
+                        self.assertTrue(os.path.lexists(name))
+                os.unlink(name)
+        self.assertEqual(target.read_bytes(), b"others")
 
     def test_a_path_of_two_slashes(self) -> None:
         problem = Path(self.path).with_name("one.pop")

@@ -5,7 +5,6 @@ import os
 import shutil
 import subprocess
 import sys
-import tempfile
 import time
 import unittest
 from pathlib import Path
@@ -28,13 +27,12 @@ FIND_PROGRAM = Path("scripts", "find-program")
 TOOLS = "bash cut dirname find grep readlink sed sh sha256sum sort uname xargs".split()
 
 
-class Room(unittest.TestCase):
+class Room(support.InRoom):
     """A room with repositories, folders of companions, and a program pops on the PATH."""
 
     def setUp(self) -> None:
-        room = tempfile.TemporaryDirectory()
-        self.addCleanup(room.cleanup)
-        self.room = Path(room.name).resolve()
+        super().setUp()
+        self.room = self.room.resolve()
         self.built = self.room / "built"
         self.elsewhere = self.program(self.room / "path" / "pops")
         self.tools = self.room / "tools"
@@ -45,8 +43,7 @@ class Room(unittest.TestCase):
     def program(self, path: Path) -> Path:
         """A program that notes that it was run, as no test expects."""
         path.parent.mkdir(parents=True, exist_ok=True)
-        path.write_text(f"#!/bin/sh\necho run >> {self.built}\n")
-        path.chmod(0o755)
+        support.write_program(path, f"#!/bin/sh\necho run >> {self.built}\n")
         return path
 
     def companions(self, folder: Path) -> Path:
@@ -79,8 +76,7 @@ class Room(unittest.TestCase):
         """Makes a release of the sources as they stand. The released pops."""
         (root / "release").mkdir()
         for name in ("pops", "pops-part"):
-            (root / "release" / name).write_text("#!/bin/sh\necho a report\n")
-            (root / "release" / name).chmod(0o755)
+            support.write_program(root / "release" / name, "#!/bin/sh\necho a report\n")
         words = [str(root / FIND_PROGRAM), "--sources"]
         sources = subprocess.run(words, capture_output=True, check=True).stdout.decode()
         sums = [

@@ -2,8 +2,6 @@
 
 import errno
 import tempfile
-import unittest
-from pathlib import Path
 from unittest import mock
 
 from pops_companions.command import CommandError
@@ -21,18 +19,13 @@ MATE = b"BeginProblem\nPieces White Kg6 Ra1 Black Kg8\nStipulation #1\nEndProble
 LEAST = 1 << 12
 
 
-class Floods(unittest.TestCase):
+class Floods(support.InRoom):
     def setUp(self) -> None:
-        room = tempfile.TemporaryDirectory()
-        self.addCleanup(room.cleanup)
-        self.room = Path(room.name)
+        super().setUp()
         (self.room / "in.pop").write_bytes(MATE)
 
     def script(self, text: str) -> str:
-        path = self.room / "program"
-        path.write_text(f"#!/bin/sh\ncat > /dev/null\n{text}\n", encoding="utf-8")
-        path.chmod(0o755)
-        return str(path)
+        return self.write_program("program", f"#!/bin/sh\ncat > /dev/null\n{text}\n")
 
     def test_output_without_an_end(self) -> None:
         with mock.patch("pops_companions.many.child_process.MOST_OUTPUT", LEAST):
@@ -124,11 +117,8 @@ class Floods(unittest.TestCase):
 
     def test_a_browser_that_writes_too_long_a_page(self) -> None:
         (self.room / "bin").mkdir()
-        browser = self.room / "bin" / "chromium"
-        browser.write_text(
-            "#!/bin/sh\nfor word do case $word in --print-to-pdf=*) truncate -s 8192 \"${word#*=}\" ;; esac; done\n"
-        )
-        browser.chmod(0o755)
+        does = "for word do case $word in --print-to-pdf=*) truncate -s 8192 \"${word#*=}\" ;; esac; done"
+        self.write_program("bin/chromium", f"#!/bin/sh\n{does}\n")
         with mock.patch.dict("os.environ", {"PATH": f"{self.room}/bin:/usr/bin:/bin"}):
             with mock.patch("pops_companions.commands.sheet.BROWSERS", ("chromium",)):
                 self.assertEqual(pdf_of("<p>"), bytes(8192))

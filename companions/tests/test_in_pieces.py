@@ -2,11 +2,8 @@
 
 import os
 import signal
-import tempfile
-import unittest
 from contextlib import contextmanager, suppress
 from itertools import product
-from pathlib import Path
 from typing import Iterator
 from unittest import mock
 
@@ -51,11 +48,10 @@ def pieces_of(size: int) -> Iterator[None]:
             yield
 
 
-class InPieces(unittest.TestCase):
+class InPieces(support.InRoom):
     def setUp(self) -> None:
-        room = tempfile.TemporaryDirectory()
-        self.addCleanup(room.cleanup)
-        self.file = Path(room.name) / "report"
+        super().setUp()
+        self.file = self.room / "report"
 
     def compare(self, text: bytes, sizes: tuple[int, ...] = (1, 300), words: list[str] = []) -> None:
         self.file.write_bytes(text)

@@ -7,8 +7,6 @@ import re
 import signal
 import subprocess
 import sys
-import tempfile
-import unittest
 from pathlib import Path
 from unittest import mock
 
@@ -28,20 +26,15 @@ TRIES_OF_ONE = (
 NO_HURRY = ["--seconds", str(support.PATIENCE)]
 
 
-class Judging(unittest.TestCase):
+class Judging(support.InRoom):
     def setUp(self) -> None:
-        room = tempfile.TemporaryDirectory()
-        self.addCleanup(room.cleanup)
-        self.room = Path(room.name)
+        super().setUp()
         self.text = self.room / "some.pop"
         self.text.write_bytes(ONE + TWO)
         self.sheet = self.room / "sheet.html"
 
     def script(self, name: str, text: str) -> str:
-        path = self.room / name
-        path.write_text("#!/bin/sh\n" + text)
-        path.chmod(0o755)
-        return str(path)
+        return self.write_program(name, "#!/bin/sh\n" + text)
 
     def judged(self, *words: str, pops: str = "", text: str = "") -> support.Outcome:
         words = ("--pops", pops or support.pops(), "-o", str(self.sheet), *words)
@@ -165,12 +158,14 @@ class Judging(unittest.TestCase):
         # The first one is cut within its head, which its verdict has to do without.
         shows = "case $(cat) in *'A help'*) printf 'problem 1\\nh#1\\nplay\\n' ;; esac"
         slow = self.script("slow", f"{shows}\n{shown(self.room)}\nexec sleep 6000\n")
-        outcome = self.judged("--seconds", "0.5", pops=slow)
-        self.assertEqual(outcome.status, 1)
-        page = self.sheet.read_text("utf-8")
-        for number, line in ((1, 1), (2, ONE.count(b"\n") + 1)):
-            self.assertIn(f"stopped after 0.5 s (problem {number} of {self.text}, line {line})", page)
-        self.assertNotIn("input.pop", page)
+        for name in ("sheet.html", "a\nb\\c.html", "\udcff.html"):
+            self.sheet = self.room / name
+            outcome = self.judged("--seconds", "0.5", pops=slow)
+            self.assertEqual(outcome.status, 1)
+            page = self.sheet.read_text("utf-8")
+            for number, line in ((1, 1), (2, ONE.count(b"\n") + 1)):
+                self.assertIn(f"stopped after 0.5 s (problem {number} of {self.text}, line {line})", page)
+            self.assertNotIn("input.pop", page)
 
     def test_a_program_that_fails_is_told_of_the_collection(self) -> None:
         outcome = self.judged(pops=self.script("dies", "cat > /dev/null\nkill -9 $$\n"))
@@ -376,7 +371,8 @@ class Judging(unittest.TestCase):
                 outcome = self.judged("--jobs", "1", "--pops-tries", paths["tries"], *NO_HURRY, pops=paths["pops"])
                 said = f"{paths[changed]} was changed during the run: nothing is kept, run it again"
                 self.assertEqual(outcome, (6, b"", f"pops-judge: {said}\n"))
-                self.assertEqual(self.files(), ["pops", "some.pop", "tries"])
+                left = [it for it in self.files() if not it.endswith(".new")]
+                self.assertEqual(left, ["pops", "some.pop", "tries"])
 
     def test_other_programs_are_not_taken_up(self) -> None:
         work = self.unfinished()

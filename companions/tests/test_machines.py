@@ -141,22 +141,11 @@ class Bundles(unittest.TestCase):
 
 
 @unittest.skipUnless(has_gnu_parallel(), "GNU parallel isn't installed")
-class OnMachines(unittest.TestCase):
-    def setUp(self) -> None:
-        room = tempfile.TemporaryDirectory()
-        self.addCleanup(room.cleanup)
-        self.room = Path(room.name)
-
-    def write(self, name: str, text: str) -> str:
-        path = self.room / name
-        path.write_text(text)
-        path.chmod(0o755)
-        return str(path)
-
+class OnMachines(support.InRoom):
     def many(self, text: bytes, pops: Optional[str] = None) -> support.Outcome:
         """A run on two machines, whose pops is this one."""
         (self.room / "x.pop").write_bytes(text)
-        ssh = self.write("ssh", _SSH.format(room=self.room))
+        ssh = self.write_program("ssh", _SSH.format(room=self.room))
         words = ["--pops", support.pops(), "--remote-pops", pops or support.pops(), "--ssh", ssh]
         words += ["--sshlogin", "one,two", "--jobs", "2", str(self.room / "x.pop")]
         # (a busy machine takes no bundle to the end of this time)
@@ -182,7 +171,7 @@ class OnMachines(unittest.TestCase):
         self.assertFalse(os.path.exists(folder))
 
     def test_a_problem_at_which_pops_fails_in_a_bundle_is_solved_alone(self) -> None:
-        failing = self.write(
+        failing = self.write_program(
             "failing",
             "#!/bin/sh\ntext=$(cat)\n"
             f"printf '%s' \"$text\" | '{support.pops()}' \"$@\" > '{self.room}'/out.$$\n"
@@ -196,9 +185,18 @@ class OnMachines(unittest.TestCase):
         said = ANOTHER.format("one, two")
         self.assertEqual(self.many(text, failing), (0, wanted.output, said))
 
+    def test_what_a_user_wants_of_gnu_parallel_elsewhere(self) -> None:
+        text = input_of(*[MATE.format(number) for number in range(3)])
+        wanted = support.run([support.pops()], text).output
+        for wants in ("--tag", f"--results {self.room}/results", "--dry-run", "--pipe", "--sshlogin :"):
+            variables = {"PARALLEL": wants, "PARALLEL_ENV": "exit 9;"}
+            with self.subTest(wants), mock.patch.dict(os.environ, variables):
+                self.assertEqual(self.many(text), (0, wanted, ""))
+        self.assertFalse((self.room / "results").exists())
+
     def test_a_machine_without_the_program_is_left_out(self) -> None:
         script = f'[ "$MACHINE" = one ] || exit 127\nexec \'{support.pops()}\' "$@"\n'
-        there = self.write("there", f"#!/bin/sh\n{script}")
+        there = self.write_program("there", f"#!/bin/sh\n{script}")
         text = input_of(*[MATE.format(number) for number in range(40)])
         outcome = self.many(text, there)
         self.assertEqual((outcome.status, outcome.output), (0, support.run([support.pops()], text).output))
@@ -206,7 +204,7 @@ class OnMachines(unittest.TestCase):
 
     def test_a_machine_that_floods_is_left_out(self) -> None:
         """It writes lines without end."""
-        flood = self.write("flood", "#!/bin/sh\nexec yes '1 eAow'\n")
+        flood = self.write_program("flood", "#!/bin/sh\nexec yes '1 eAow'\n")
         (self.room / "x.pop").write_bytes(input_of(MATE.format(1)))
         words = ["--pops", support.pops(), "--remote-pops", "pops", "--ssh", flood]
         words += ["--sshlogin", "one", "--jobs", "1", str(self.room / "x.pop")]
@@ -221,7 +219,7 @@ class OnMachines(unittest.TestCase):
             with self.subTest(flood):
                 script = f'text=$(cat)\ncase $MACHINE-$text in two*Title*) {flood} ;; esac\n'
                 script += f'printf "%s" "$text" | \'{support.pops()}\' "$@"\n'
-                there = self.write("there", f"#!/bin/sh\n{script}")
+                there = self.write_program("there", f"#!/bin/sh\n{script}")
                 text = input_of(*[MATE.format(number) for number in range(400)])
                 with mock.patch("pops_companions.many.parallel._MOST_OF_A_LOGIN", 1 << 20):
                     outcome = self.many(text, there)
@@ -232,7 +230,7 @@ class OnMachines(unittest.TestCase):
 
     def resumed(self, pops: str, there: str) -> support.Outcome:
         """A run on a machine that begins a journal or goes on with it."""
-        ssh = self.write("ssh", _SSH.format(room=self.room))
+        ssh = self.write_program("ssh", _SSH.format(room=self.room))
         report = self.room / "x.report"
         words = ["--pops", pops, "--remote-pops", there, "--ssh", ssh, "--sshlogin", "one", "--jobs", "1"]
         words += ["--resume"] * Path(f"{report}.journal").exists()
@@ -253,7 +251,7 @@ class OnMachines(unittest.TestCase):
 
     def test_a_machine_with_another_program_than_before_is_left_out(self) -> None:
         pops = self.begun()
-        other = self.write("other", f"{Path(pops).read_text()}\n")
+        other = self.write_program("other", f"{Path(pops).read_text()}\n")
         journal = (self.room / "x.report.journal").read_bytes()
         left_out = "pops-many: machine one left out: pops isn't the one that the run had there\n"
         said = f"{ANOTHER.format('one')}{left_out}pops-many: no machine is left\n"
@@ -282,7 +280,7 @@ class OnMachines(unittest.TestCase):
         """It isn't known which program it has."""
         pops = self.begun()
         (self.room / "bin").mkdir()
-        self.write("bin/sha256sum", "#!/bin/sh\nexit 127\n")
+        self.write_program("bin/sha256sum", "#!/bin/sh\nexit 127\n")
         said = "pops-many: pops on one can't be compared with pops here\n"
         with mock.patch.dict(os.environ, {"PATH": f"{self.room}/bin:{os.environ['PATH']}"}):
             self.assertEqual(self.resumed(pops, pops), (0, b"", said))
@@ -315,7 +313,7 @@ class OnMachines(unittest.TestCase):
     def test_a_machine_that_says_nothing_is_left_out(self) -> None:
         """It takes a login and hangs, also where GNU parallel first asks it how many jobs it takes."""
         (self.room / "x.pop").write_bytes(input_of(MATE.format(1)))
-        hangs = self.write("hangs", "#!/bin/sh\nsleep 60\n")
+        hangs = self.write_program("hangs", "#!/bin/sh\nsleep 60\n")
         words = ["--pops", support.pops(), "--sshlogin", "one", "--ssh", hangs, str(self.room / "x.pop")]
         left_out = "machine one left out: no report came back in 1 s"
         said = f"pops-many: {left_out}\npops-many: no machine is left\n"
@@ -331,7 +329,7 @@ class OnMachines(unittest.TestCase):
             with self.subTest(before):
                 (self.room / "logins").unlink(missing_ok=True)
                 hangs = f'[ $(wc -l < "{self.room}/logins") = 1 ] || {{ {before}exec sleep 6000; }}\nexec bash'
-                ssh = self.write("hangs", _SSH.format(room=self.room).replace("exec bash", hangs))
+                ssh = self.write_program("hangs", _SSH.format(room=self.room).replace("exec bash", hangs))
                 words = ["--pops", support.pops(), "--remote-pops", support.pops(), "--ssh", ssh, "--jobs", "1"]
                 words += ["--seconds", "1", "--sshlogin", "one", "-o", str(self.room / "x.report"), str(self.room / "x.pop")]
                 with mock.patch("pops_companions.many.machines._SECONDS_OF_A_LOGIN", 1):
@@ -344,12 +342,12 @@ class OnMachines(unittest.TestCase):
         """What it had at hand is handed out again."""
         (self.room / "x.pop").write_bytes(input_of(MATE.format("Slow"), MATE.format("other").replace("#1", "h#3")))
         ended = f"[ -e '{self.room}/again' ] || {{ touch '{self.room}/again'; echo $$ > '{self.room}/at-work'; exec sleep 6000; }}"
-        slow = self.write(
+        slow = self.write_program(
             "slow",
             f"#!/bin/sh\ntext=$(cat)\ncase $text in *Slow*) {ended} ;; esac\n"
             f"printf '%s\\n' \"$text\" | exec '{support.pops()}' \"$@\"\n",
         )
-        ssh = self.write("ssh", _SSH.format(room=self.room))
+        ssh = self.write_program("ssh", _SSH.format(room=self.room))
         words = [sys.executable, str(support.COMPANIONS / "pops-many"), "--pops", support.pops(), "--remote-pops", slow]
         words += ["--ssh", ssh, "--sshlogin", "one", "--jobs", "2", str(self.room / "x.pop")]
         run = subprocess.Popen(words, stdout=subprocess.PIPE, stderr=subprocess.PIPE)
@@ -368,7 +366,7 @@ class OnMachines(unittest.TestCase):
         (self.room / "x.pop").write_bytes(input_of(MATE.format("Slow")))
         at_work = self.room / "at-work"
         script = f"text=$(cat)\ncase $text in *Slow*) setsid sh -c \"echo \\$\\$ > '{at_work}'; exec sleep 6000\" ;; esac\n"
-        apart = self.write("apart", f"#!/bin/sh\n{script}printf '%s\\n' \"$text\" | exec '{support.pops()}' \"$@\"\n")
+        apart = self.write_program("apart", f"#!/bin/sh\n{script}printf '%s\\n' \"$text\" | exec '{support.pops()}' \"$@\"\n")
         words = [sys.executable, str(support.COMPANIONS / "pops-many"), "--pops", support.pops(), "--remote-pops", apart]
         words += ["--sshlogin", ":", "--jobs", "1", "-o", str(self.room / "x.report"), str(self.room / "x.pop")]
         with subprocess.Popen(words, stderr=subprocess.PIPE) as run:
@@ -383,7 +381,7 @@ class OnMachines(unittest.TestCase):
     def test_the_number_of_jobs_that_a_machine_takes(self) -> None:
         """What a machine says without end is cut short."""
         end = self.room / "whole"
-        ssh = self.write(
+        ssh = self.write_program(
             "many_ssh",
             "#!/bin/sh\ncase $* in *--number-of-*)\n"
             f"  head -c 100000000 /dev/zero | tr '\\0' 9 && head -c 100000000 /dev/zero && touch '{end}'\n"
@@ -408,13 +406,13 @@ class OnMachines(unittest.TestCase):
         text = input_of(MATE.format(1))
         (self.room / "x.pop").write_bytes(text)
         words = ["--pops", support.pops(), "--remote-pops", support.pops(), "--sshlogin", "one"]
-        ssh = self.write("\udcff/ssh", _SSH.format(room=self.room))
+        ssh = self.write_program("\udcff/ssh", _SSH.format(room=self.room))
         outcome = support.companion("pops-many", *words, "--ssh", ssh, str(self.room / "x.pop"))
         self.assertEqual(outcome, (0, support.run([support.pops()], text).output, ""))
 
     def test_the_default_command_is_ssh(self) -> None:
         """Found on the PATH; the parts of problems don't share connections, so that each can be ended."""
-        self.write("ssh", _SSH.format(room=self.room))
+        self.write_program("ssh", _SSH.format(room=self.room))
         text = input_of(*[MATE.format(number) for number in range(3)])
         (self.room / "x.pop").write_bytes(text)
         words = ["--pops", support.pops(), "--remote-pops", support.pops(), "--sshlogin", "one"]

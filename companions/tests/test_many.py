@@ -233,6 +233,18 @@ class Interruptions(SixProblems):
             self.assertEqual((outcome.status, outcome.output), (2, b""))
             self.assertIn(f"{self.journal} is of {why}", outcome.error)
 
+    def test_a_program_that_is_changed_and_changed_back_during_the_run(self) -> None:
+        """Nothing of the other program is kept."""
+        pops, kept = self.room / "stand_in", self.room / "kept"
+        back = f"text=$(cat)\nmv '{kept}' '{pops}'\nprintf '%s' \"$text\" | '{support.pops()}' --no-board \"$@\""
+        other = self.write_program("other", f"#!/bin/sh\n{back}\n")
+        self.stand_in(f"mv '{pops}' '{kept}'; mv '{other}' '{pops}'")
+        outcome = self.many(str(pops))
+        self.assertEqual(outcome.status, 6)
+        self.assertIn(f"pops-many: {pops} was changed during the run: ", outcome.error)
+        self.assertFalse(self.report.exists())
+        self.assertIn(self.kept(), (3, 4))
+
     def test_a_cut_report_is_no_report(self) -> None:
         outcome = self.many(self.stand_in("echo 'problem 1'; exit 0"))
         self.assertEqual(outcome.status, 6)
@@ -355,8 +367,7 @@ class Interruptions(SixProblems):
         pops = self.room / "stand_in"
         for words in (f"exec '{real}'", f'exec "{real}"', f"nice {real}"):
             with self.subTest(words):
-                pops.write_text(f'#!/bin/sh\n{words} "$@"\n')
-                pops.chmod(0o755)
+                support.write_program(pops, f'#!/bin/sh\n{words} "$@"\n')
                 self.stand_in_does("kill -9 $$")
                 self.assertEqual(self.many(str(pops)).status, 6)
                 self.stand_in_does(":")
@@ -380,18 +391,7 @@ class Interruptions(SixProblems):
         self.assertFalse(os.path.exists(journal))
 
 
-class Identity(unittest.TestCase):
-    def setUp(self) -> None:
-        room = tempfile.TemporaryDirectory()
-        self.addCleanup(room.cleanup)
-        self.room = Path(room.name)
-
-    def write(self, name: str, text: str) -> str:
-        path = self.room / name
-        path.write_text(text)
-        path.chmod(0o755)
-        return str(path)
-
+class Identity(support.InRoom):
     def test_a_program_is_its_bytes(self) -> None:
         own = hashlib.sha256(Path(support.pops()).read_bytes()).hexdigest()
         self.assertEqual(identity(support.pops()), own)
@@ -400,14 +400,14 @@ class Identity(unittest.TestCase):
         self.assertEqual(identity(str(link)), own)
 
     def test_a_script_is_also_what_it_names(self) -> None:
-        real = self.write("pops-real", "1")
+        real = self.write_program("pops-real", "1")
         for words in (f"exec {real}", f"P='{real}'; \"$P\"", f'(nice "{real}")', "pops-real"):
-            script = self.write("script", f'#!/bin/sh\n{words} "$@" # \0 /nowhere /\n')
+            script = self.write_program("script", f'#!/bin/sh\n{words} "$@" # \0 /nowhere /\n')
             with mock.patch.dict(os.environ, {"PATH": str(self.room)}):
                 before = identity(script)
-                self.write("pops-real", "2")
+                self.write_program("pops-real", "2")
                 self.assertNotEqual(identity(script), before, words)
-                self.write("pops-real", "1")
+                self.write_program("pops-real", "1")
                 self.assertEqual(identity(script), before)
 
     def test_a_script_names_programs_in_its_own_folder(self) -> None:
@@ -416,36 +416,47 @@ class Identity(unittest.TestCase):
         words = ['"$(dirname "$0")/real"', '"$here"/real', "${HOME}/real", "~/real", "`dirname $0`/bin/real"]
         for word in words:
             real = "bin/real" if "bin" in word else "real"
-            self.write(real, "1")
+            self.write_program(real, "1")
             link = self.room / "bin" / "link"
             link.unlink(missing_ok=True)
-            script = self.write("script", f'#!/bin/sh\nexec {word} "$@"\n')
+            script = self.write_program("script", f'#!/bin/sh\nexec {word} "$@"\n')
             link.symlink_to(script)
             for program in (script, str(link)):
                 with self.subTest(word, program=program), mock.patch.dict(os.environ, {"HOME": str(self.room)}):
                     before = Known(program)
                     self.assertFalse(before.is_changed)
-                    self.write(real, "2")
+                    self.write_program(real, "2")
                     self.assertNotEqual(identity(program), before.identity)
                     self.assertTrue(before.is_changed)
-                    self.write(real, "1")
-                    self.assertFalse(before.is_changed)
+                    self.write_program(real, "1")
+                    self.assertTrue(before.is_changed)
+                    self.assertFalse(Known(program).is_changed)
+
+    def test_a_program_that_comes_again(self) -> None:
+        """It isn't another one."""
+        known = Known(self.write_program("real", "1"))
+        for _ in range(2):
+            self.write_program("new", "1")
+            (self.room / "new").replace(self.room / "real")
+            self.assertFalse(known.is_changed)
+        (self.room / "real").unlink()
+        self.assertFalse(known.is_changed)
 
     def test_scripts_that_name_each_other(self) -> None:
         names = [str(self.room / str(number)) for number in range(100)]
         for number in range(100):
-            self.write(str(number), f"#!/bin/sh\n{' '.join(names)}\n")
+            self.write_program(str(number), f"#!/bin/sh\n{' '.join(names)}\n")
         before = identity(names[0])
-        self.write("1", "#!/bin/sh\n")
+        self.write_program("1", "#!/bin/sh\n")
         self.assertNotEqual(identity(names[0]), before)
 
     def test_a_script_that_names_the_script_of_a_repository(self) -> None:
         """It is the program of that."""
-        script = self.write("script", f"#!/bin/sh\n'{support.REPOSITORY}/pops' \"$@\"\n")
+        script = self.write_program("script", f"#!/bin/sh\n'{support.REPOSITORY}/pops' \"$@\"\n")
         with mock.patch("pops_companions.many.identity.without_script") as found:
-            found.return_value = self.write("real", "1")
+            found.return_value = self.write_program("real", "1")
             before = identity(script)
-            self.write("real", "2")
+            self.write_program("real", "2")
             self.assertNotEqual(identity(script), before)
         found.assert_called_with(f"{support.REPOSITORY}/pops", "pops")
 
@@ -523,8 +534,7 @@ class Command(unittest.TestCase):
         shown = re.compile(r"\rpops-many: 0 of 1 problems, \d+:(?!00)\d\d so far")
         with tempfile.TemporaryDirectory() as room:
             slow, seen = Path(room) / "slow", Path(room) / "seen"
-            slow.write_text(f"#!/bin/sh\nuntil [ -e {seen} ]; do sleep 0.1; done\nexec '{support.pops()}'\n")
-            slow.chmod(0o755)
+            support.write_program(slow, f"#!/bin/sh\nuntil [ -e {seen} ]; do sleep 0.1; done\nexec '{support.pops()}'\n")
             words = [sys.executable, str(support.COMPANIONS / "pops-many"), "--pops", str(slow)]
             one = SIX.split(b"NextProblem")[0] + b"EndProblem\n"
             status, said = support.said_on_terminal(words, one, look=lambda it: seen.touch() if shown.search(it) else None)

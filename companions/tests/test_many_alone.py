@@ -3,10 +3,8 @@
 import io
 import re
 import shutil
-import tempfile
 import unittest
 from collections.abc import Callable
-from pathlib import Path
 from unittest import mock
 
 from pops_companions.many.batches import Batches
@@ -23,11 +21,10 @@ LONG = (support.REPOSITORY / "examples" / "help_mate_in_three.pop").read_bytes()
 LONG = LONG.replace(b"h#3\n", b"h#3.5\nCondition Circe\n")
 
 
-class Alone(unittest.TestCase):
+class Alone(support.InRoom):
     def setUp(self) -> None:
-        room = tempfile.TemporaryDirectory()
-        self.addCleanup(room.cleanup)
-        self.input = Path(room.name) / "one.pop"
+        super().setUp()
+        self.input = self.room / "one.pop"
         self.input.write_bytes(LONG)
 
     def lines(self, *words: str) -> tuple[support.Outcome, list[str]]:
@@ -78,10 +75,8 @@ class Alone(unittest.TestCase):
 
     def test_a_pops_of_another_build_is_left_alone(self) -> None:
         """The program of parts that it would take isn't of that build."""
-        other = self.input.parent / "other-pops"
-        other.write_text(f"#!/bin/sh\nsleep 0.2\nexec {support.pops()} \"$@\"\n")
-        other.chmod(0o755)
-        outcome, told = self.lines("--pops", str(other))
+        other = self.write_program("other-pops", f"#!/bin/sh\nsleep 0.2\nexec {support.pops()} \"$@\"\n")
+        outcome, told = self.lines("--pops", other)
         self.assertEqual(outcome.status, 0)
         self.assertEqual([line for line in told if " first moves" in line], [])
 

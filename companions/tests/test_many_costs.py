@@ -33,11 +33,9 @@ print([name for name in sys.argv[2:] if name in sys.modules])
 """
 
 
-class Costs(unittest.TestCase):
+class Costs(support.InRoom):
     def setUp(self) -> None:
-        room = tempfile.TemporaryDirectory()
-        self.addCleanup(room.cleanup)
-        self.room = Path(room.name)
+        super().setUp()
         self.input = self.room / "x.pop"
 
     def test_what_a_run_loads(self) -> None:
@@ -66,13 +64,11 @@ class Costs(unittest.TestCase):
 
     def test_the_journal_of_a_run_without_one(self) -> None:
         """It is among the temporary files, in their usual folder where the one named isn't there."""
-        failing = self.room / "program"
-        failing.write_text("#!/bin/sh\nexit 3\n")
-        failing.chmod(0o755)
+        failing = self.write_program("program", "#!/bin/sh\nexit 3\n")
         self.input.write_bytes(input_of(MATE, MATE))
         for folder, wanted in ((str(self.room), str(self.room)), (f"{self.room}/none", "/tmp")):
             with mock.patch.dict(os.environ, {"TMPDIR": folder}):
-                words = ["--pops", str(failing), str(self.input)]
+                words = ["--pops", failing, str(self.input)]
                 outcome = run_here.companion("pops-many", *words)
             journal = Path(outcome.error.rpartition("--journal ")[2].strip())
             self.assertEqual((outcome.status, str(journal.parent)), (6, wanted))

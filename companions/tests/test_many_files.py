@@ -1,8 +1,8 @@
 """pops-many over several FILEs: which item is of which, a report each, files that fail."""
 
+import os
 import subprocess
 import sys
-import unittest
 from pathlib import Path
 from unittest import mock
 
@@ -180,6 +180,45 @@ class Several(SixProblems):
         self.assertEqual(self.each(*words, "--resume"), (0, b"", ""))
         self.assertEqual(self.report.read_bytes(), self.wanted)
 
+    def test_a_line_end_in_the_path_of_a_problem_that_takes_longer(self) -> None:
+        odd = self.room / "a\\b\nc\td"
+        odd.write_bytes(SIX)
+        words = ["--seconds", "1", "--jobs", "1", "-o", str(self.report), str(odd)]
+        slow = self.stand_in("cat > /dev/null; printf 'problem 1\\n'; exec sleep 6000")
+        for _ in range(2):
+            self.assertEqual(support.companion("pops-many", "--pops", slow, *words).status, 6)
+            rest = Path(f"{self.report}.unfinished")
+            mark = rest.read_bytes().splitlines()[1]
+            name = str(odd).replace("\\", r"\\").replace("\n", r"\n").replace("\t", r"\t")
+            self.assertEqual(mark, f"unfinished: stopped after 1 s ({name}, line 13)".encode())
+            outcome = run_here.companion("pops-test", str(rest))
+            self.assertIn(mark.decode(), outcome.output.decode() + outcome.error)
+            words.append("--resume")
+
+    def test_a_report_that_is_no_file_has_no_files_beside_it(self) -> None:
+        with mock.patch.dict(os.environ, {"TMPDIR": str(self.room)}):
+            outcome = self.each("-o", "/dev/full", str(self.input))
+            self.assertEqual((outcome.status, outcome.output), (6, b""))
+            journal = self.files()[-1]
+            self.assertRegex(journal, r"^pops-many-[0-9a-f]{12}\.journal$")
+            self.assertIn(f"--resume --journal {self.room}/{journal}", outcome.error)
+        for words, said in ((["--resume"], "--resume needs --output"), (["--seconds", "9"], "--seconds needs --output")):
+            outcome = self.each("-o", "/dev/full", *words, str(self.input))
+            self.assertEqual((outcome.status, outcome.output), (2, b""))
+            self.assertIn(said, outcome.error)
+
+    def test_a_pipe_for_what_is_unfinished_keeps_its_permissions(self) -> None:
+        self.report.touch(0o600)
+        pipe = self.room / "pipe"
+        os.mkfifo(pipe)
+        pipe.chmod(0o644)
+        slow = self.stand_in("cat > /dev/null; printf 'problem 1\\n'; exec sleep 6000")
+        words = ["--seconds", "1", "--unfinished", str(pipe)]
+        reader = os.open(pipe, os.O_RDWR)
+        self.addCleanup(os.close, reader)
+        self.assertEqual(self.many(slow, *words).status, 6)
+        self.assertEqual(pipe.stat().st_mode & 0o777, 0o644)
+
     def test_a_report_that_would_lack_problems_is_never_complete(self) -> None:
         """Problems are counted as done before they are: the run keeps them, and says so."""
         words = self.words(support.pops())
@@ -198,8 +237,7 @@ class Several(SixProblems):
         journal = Path(f"{self.report}.journal")
         pops = self.room / "pops"
         for then, left in (("", None), (f"echo another > '{journal}'", b"another\n")):
-            pops.write_text(f"#!/bin/sh\nrm -f '{journal}'\n{then}\nexec '{support.pops()}' \"$@\"\n")
-            pops.chmod(0o755)
+            support.write_program(pops, f"#!/bin/sh\nrm -f '{journal}'\n{then}\nexec '{support.pops()}' \"$@\"\n")
             outcome = self.many(str(pops), "--jobs", "1")
             self.assertEqual((outcome.status, outcome.error), (0, ""))
             self.assertEqual(self.report.read_bytes(), self.wanted)

@@ -2,7 +2,6 @@
 
 import os
 import subprocess
-import unittest
 from pathlib import Path
 
 from pops_companions.many.tasks import whole_lines

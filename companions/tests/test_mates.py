@@ -1,9 +1,7 @@
 """Pure, model and ideal mates and echoes, worked out by hand."""
 
-import tempfile
 import unittest
 from collections.abc import Iterator
-from pathlib import Path
 from unittest import mock
 
 from pops_companions.chess.attacks import Men
@@ -100,13 +98,11 @@ class Mates(unittest.TestCase):
             self.assertEqual(keywords_of(mates), wanted)
 
 
-class Programs(unittest.TestCase):
+class Programs(support.InRoom):
     """pops-test says what the mates are, and pops-find finds them as keywords."""
 
     def setUp(self) -> None:
-        room = tempfile.TemporaryDirectory()
-        self.addCleanup(room.cleanup)
-        self.room = Path(room.name)
+        super().setUp()
         self.text = self.room / "some.pop"
         problem = "Pieces White Kg6 Ra1 Black Kh8\nStipulation h#1\n"
         self.text.write_text(

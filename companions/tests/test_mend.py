@@ -3,10 +3,8 @@
 import codecs
 import io
 import sys
-import tempfile
 import unittest
 from collections.abc import Callable
-from pathlib import Path
 from typing import Optional
 from unittest import mock
 
@@ -608,11 +606,9 @@ class Work(unittest.TestCase):
         self.is_linear(made, lambda text: explained.write_json("x", text, reports[text], io.BytesIO(), True))
 
 
-class Command(unittest.TestCase):
+class Command(support.InRoom):
     def setUp(self) -> None:
-        room = tempfile.TemporaryDirectory()
-        self.addCleanup(room.cleanup)
-        self.room = Path(room.name)
+        super().setUp()
         self.input = self.room / "two.pop"
         self.input.write_bytes(text_of("Titel A", PIECES, "Stipulation 2#"))
 

@@ -4,9 +4,7 @@ proved."""
 import os
 import random
 import re
-import tempfile
 import unittest
-from pathlib import Path
 from typing import NamedTuple, Optional
 from unittest import mock
 
@@ -124,13 +122,8 @@ OWN = Span(TEXT.index(b"Ta1"), TEXT.index(b"Ta1") + 3)
 OTHER = Span(OWN.stop + 1, OWN.stop + 4)
 
 
-class Explained(unittest.TestCase):
+class Explained(support.InRoom):
     """Only the word that pops-part finds is explained."""
-
-    def setUp(self) -> None:
-        room = tempfile.TemporaryDirectory()
-        self.addCleanup(room.cleanup)
-        self.room = Path(room.name)
 
     def pops_part(self, does: str) -> str:
         return stand_in(self.room / "pops-part", does)

@@ -4,7 +4,6 @@ data/popeye_solutions.txt has fifty mates in two as YACPDB publishes them, with 
 Popeye made: a line with author and source, a line of men, the solution, an empty line.
 """
 
-import tempfile
 import unittest
 from pathlib import Path
 from typing import NamedTuple
@@ -85,13 +84,12 @@ class Options(unittest.TestCase):
         self.assertEqual(solutions(outcome.output.decode()), wanted)
 
 
-class Command(unittest.TestCase):
+class Command(support.InRoom):
     def test_words_of_popeye_are_taken(self) -> None:
-        with tempfile.TemporaryDirectory() as room:
-            file = Path(room) / "some.inp"
-            file.write_text(f"{MORPHY}EndProblem\n")
-            words = ["-maxmem", "100M", "-maxpos", "1000", "-maxtime", "6000", str(file)]
-            outcome = solved("", *words)
+        file = self.room / "some.inp"
+        file.write_text(f"{MORPHY}EndProblem\n")
+        words = ["-maxmem", "100M", "-maxpos", "1000", "-maxtime", "6000", str(file)]
+        outcome = solved("", *words)
         self.assertEqual((outcome.status, outcome.error), (0, ""))
         self.assertIn(b"\n8  -K  -B   K   .   .   .   .   .   8\n", outcome.output)
         self.assertRegex(outcome.output.decode(), r"\n  #2 +3 \+ 4\n")
@@ -111,16 +109,14 @@ class Command(unittest.TestCase):
         """The next problem is solved."""
         program = find_tries(None, support.pops())
         text = f"{MORPHY}NextProblem\n{MORPHY[13:]}EndProblem\n"
-        with tempfile.TemporaryDirectory() as room:
-            slow = Path(room) / "tries"
-            slow.write_text(f"#!/bin/sh\nmkdir '{room}/begun' || exec '{program}' \"$@\"\nexec sleep 9999\n")
-            slow.chmod(0o755)
-            # (on a busy machine it takes longer to solve the other)
-            for seconds in ("2", "20", "400"):
-                outcome = solved(text, "-maxtime", seconds, "--pops-tries", str(slow))
-                if outcome.output:
-                    break
-                (Path(room) / "begun").rmdir()
+        does = f"mkdir '{self.room}/begun' || exec '{program}' \"$@\"\nexec sleep 9999"
+        slow = self.write_program("tries", f"#!/bin/sh\n{does}\n")
+        # (on a busy machine it takes longer to solve the other)
+        for seconds in ("2", "20", "400"):
+            outcome = solved(text, "-maxtime", seconds, "--pops-tries", slow)
+            if outcome.output:
+                break
+            (self.room / "begun").rmdir()
         self.assertEqual(outcome.status, 1)
         self.assertEqual(outcome.error, "popeye-py: problem 1: left out: the time is over\n")
         self.assertEqual(outcome.output.count(b"solution finished."), 1)
@@ -139,12 +135,9 @@ class Command(unittest.TestCase):
         self.assertEqual(solved("", "/no/such.inp").status, 3)
 
     def test_a_program_that_writes_no_report(self) -> None:
-        with tempfile.TemporaryDirectory() as room:
-            program = Path(room) / "pops"
-            program.write_text("#!/bin/sh\necho nothing\n")
-            program.chmod(0o755)
-            text = f"{MORPHY}EndProblem\n".encode()
-            outcome = support.companion("popeye-py", "--pops", str(program), text=text)
+        program = self.write_program("pops", "#!/bin/sh\necho nothing\n")
+        text = f"{MORPHY}EndProblem\n".encode()
+        outcome = support.companion("popeye-py", "--pops", program, text=text)
         self.assertEqual(outcome.status, 3)
         self.assertEqual(outcome.error.count("\n"), 1)
 
@@ -155,18 +148,15 @@ class Command(unittest.TestCase):
         assert program is not None
         whole = support.run([program], text.replace(b"EndProblem", b"Option Variation EndProblem")).output
         half = whole[: whole.index(b"\n", len(whole) // 2) + 1]
-        with tempfile.TemporaryDirectory() as room:
-            liar = Path(room) / "tries"
-            for shown, why in (
-                (half, "tries ended with status 0"),
-                (whole.replace(b"pp......", b"ppp....."), "pops-tries shows another problem than pops"),
-            ):
-                (Path(room) / "shown").write_bytes(shown)
-                liar.write_text(f"#!/bin/sh\ncat > /dev/null\ncat '{room}/shown'\n")
-                liar.chmod(0o755)
-                outcome = solved(text.decode(), "--pops-tries", str(liar))
-                self.assertEqual((outcome.status, outcome.output), (3, b""))
-                self.assertEqual(outcome.error, f"popeye-py: {why}\n")
+        liar = self.write_program("tries", f"#!/bin/sh\ncat > /dev/null\ncat '{self.room}/shown'\n")
+        for shown, why in (
+            (half, "tries ended with status 0"),
+            (whole.replace(b"pp......", b"ppp....."), "pops-tries shows another problem than pops"),
+        ):
+            (self.room / "shown").write_bytes(shown)
+            outcome = solved(text.decode(), "--pops-tries", liar)
+            self.assertEqual((outcome.status, outcome.output), (3, b""))
+            self.assertEqual(outcome.error, f"popeye-py: {why}\n")
 
     def test_what_pops_finds_faulty(self) -> None:
         """The problems after it are solved."""

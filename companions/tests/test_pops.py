@@ -4,7 +4,6 @@ import asyncio
 import contextlib
 import itertools
 import os
-import tempfile
 import threading
 import unittest
 from collections.abc import Iterable
@@ -112,8 +111,9 @@ class Reading(unittest.TestCase):
         self.assertEqual(item.unfinished, "the report ends here")
 
 
-class Runs(unittest.TestCase):
+class Runs(support.InRoom):
     def setUp(self) -> None:
+        super().setUp()
         self.engine = pops.Engine(support.pops())
 
     def test_a_run_gives_the_report_of_the_program(self) -> None:
@@ -170,12 +170,9 @@ class Runs(unittest.TestCase):
 
     def test_limit_of_seconds_with_a_late_timer(self) -> None:
         """The limit of processor time ends the program before the timer does."""
-        with tempfile.TemporaryDirectory() as room:
-            program = Path(room, "pops")
-            program.write_text("#!/bin/sh\necho problem 1\nsleep 0.2\nkill -9 $$\n")
-            program.chmod(0o755)
-            with mock.patch("threading.Timer.start"):
-                result = pops.Engine(str(program)).solve(PAIR, pops.Limits(seconds=0.1)).result
+        program = self.write_program("pops", "#!/bin/sh\necho problem 1\nsleep 0.2\nkill -9 $$\n")
+        with mock.patch("threading.Timer.start"):
+            result = pops.Engine(program).solve(PAIR, pops.Limits(seconds=0.1)).result
         self.assertIs(result.ending, pops.Ending.SECONDS)
         self.assertEqual(result.text, b"problem 1\n")
 
@@ -203,35 +200,26 @@ class Runs(unittest.TestCase):
         self.assertIs(run.result.ending, pops.Ending.SOLUTIONS)
 
     def test_a_program_that_fails(self) -> None:
-        with tempfile.TemporaryDirectory() as room:
-            program = Path(room, "pops")
-            program.write_text("#!/bin/sh\necho problem 1\necho no room >&2\nexit 4\n")
-            program.chmod(0o755)
-            run = pops.Engine(str(program)).solve(PAIR)
-            self.assertEqual(next(run), pops.ProblemEvent(1))
-            self.assertEqual(next(run), pops.EndEvent(1, "the program failed"))
-            with self.assertRaisesRegex(pops.RunError, "^pops ended with status 4: no room$"):
-                next(run)
+        program = self.write_program("pops", "#!/bin/sh\necho problem 1\necho no room >&2\nexit 4\n")
+        run = pops.Engine(program).solve(PAIR)
+        self.assertEqual(next(run), pops.ProblemEvent(1))
+        self.assertEqual(next(run), pops.EndEvent(1, "the program failed"))
+        with self.assertRaisesRegex(pops.RunError, "^pops ended with status 4: no room$"):
+            next(run)
         with self.assertRaises(pops.MissingError):
             pops.Engine("/no/such/program")
 
     def test_a_program_that_says_too_much(self) -> None:
-        with tempfile.TemporaryDirectory() as room:
-            program = Path(room, "pops")
-            program.write_text("#!/bin/sh\ncat > /dev/null\nexec head -c 2000000 /dev/zero >&2\n")
-            program.chmod(0o755)
-            with mock.patch("pops.run._MOST_ERRORS", 1 << 20):
-                with self.assertRaisesRegex(pops.RunError, "^pops was ended: it wrote more than 1 MiB$"):
-                    list(pops.Engine(str(program)).solve(PAIR))
+        program = self.write_program("pops", "#!/bin/sh\ncat > /dev/null\nexec head -c 2000000 /dev/zero >&2\n")
+        with mock.patch("pops.run._MOST_ERRORS", 1 << 20):
+            with self.assertRaisesRegex(pops.RunError, "^pops was ended: it wrote more than 1 MiB$"):
+                list(pops.Engine(program).solve(PAIR))
 
     def test_version(self) -> None:
         number = (support.REPOSITORY / "VERSION").read_text().split()[0]
         self.assertEqual(pops.__version__, number)
-        with tempfile.TemporaryDirectory() as room:
-            program = Path(room, "pops")
-            program.write_text("#!/bin/sh\n")
-            program.chmod(0o755)
-            self.assertEqual(pops.Engine(str(program)).version, "unknown")
+        program = self.write_program("pops", "#!/bin/sh\n")
+        self.assertEqual(pops.Engine(program).version, "unknown")
 
 
 class Tries(unittest.TestCase):

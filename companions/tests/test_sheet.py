@@ -101,18 +101,13 @@ def tries_of(text: bytes) -> bytes:
     return plain_tries(text)
 
 
-class Case(unittest.TestCase):
+class Case(support.InRoom):
     """A folder with an input, its text of tries, and a program that makes it."""
 
     def setUp(self) -> None:
-        room = tempfile.TemporaryDirectory()
-        self.addCleanup(room.cleanup)
-        self.room = Path(room.name)
-        self.tries = self.room / "plain-tries"
-        self.tries.write_text(
-            f"#!/bin/sh\ncd {support.COMPANIONS} && exec {sys.executable} -m tests.plain_tries \"$@\"\n"
-        )
-        self.tries.chmod(0o755)
+        super().setUp()
+        does = f"cd {support.COMPANIONS} && exec {sys.executable} -m tests.plain_tries \"$@\""
+        self.tries = self.write_program("plain-tries", f"#!/bin/sh\n{does}\n")
 
     def sheet(self, text: bytes, *words: str) -> support.Outcome:
         """The sheet of an input with its text of tries."""
@@ -800,7 +795,7 @@ class Command(Case):
 
     def test_a_program_of_tries(self) -> None:
         """If no text is given, the program runs, with the number of refutations that the command names."""
-        words = ["--to", "text", "--pops-tries", str(self.tries)]
+        words = ["--to", "text", "--pops-tries", self.tries]
         outcome = self.made(OF_THE_MANUAL, *words)
         self.assertEqual((outcome.status, outcome.error), (0, ""))
         self.assertEqual(outcome.output.decode(), self.text(OF_THE_MANUAL))
@@ -862,7 +857,7 @@ class Command(Case):
         two = OF_THE_MANUAL.replace(b"EndProblem", b"NextProblem") + OF_THE_MANUAL.split(b"\n", 1)[1]
         report.write_bytes(support.run([support.pops()], two).output)
         self.assertIn(b"problem 2\n", report.read_bytes())
-        words = ["--to", "text", "--report", str(report), "--pops-tries", str(self.tries)]
+        words = ["--to", "text", "--report", str(report), "--pops-tries", self.tries]
         for more in ("", "--tries none"):
             outcome = self.made(OF_THE_MANUAL, *words, *more.split())
             message = "pops-sheet: the report isn't that of the input: other problems\n"
@@ -896,14 +891,13 @@ class Command(Case):
         """What takes too long is shown as far as it went, and says so; the others are whole."""
         long = "Pieces White Kb1 Pc2e2g2 Black Ke8 Ra8h8 Pa7c7e7g7h7\nStipulation h#7\n"
         text = TWINS.decode().replace("EndProblem", f"NextProblem\nTitle Long\n{long}EndProblem")
-        slow = self.room / "slow"
         head = f"printf '%s' \"$text\" | '{support.pops()}' --check | sed '/^sound$/,$d'"
-        slow.write_text(
+        slow = self.write_program(
+            "slow",
             f"#!/bin/sh\ntext=$(cat)\ncase $text in *Long*) {head}; {shown(self.room)}; exec sleep 6000 ;; esac\n"
-            f"printf '%s' \"$text\" | '{support.pops()}' \"$@\"\n"
+            f"printf '%s' \"$text\" | '{support.pops()}' \"$@\"\n",
         )
-        slow.chmod(0o755)
-        words = ["--to", "text", "--seconds", "1", "--language", "de", "--pops", str(slow)]
+        words = ["--to", "text", "--seconds", "1", "--language", "de", "--pops", slow]
         with limit_when_shown(self.room):
             outcome = self.made(text.encode(), *words)
         told = outcome.output.decode()
@@ -928,7 +922,7 @@ class Command(Case):
     def test_progress(self) -> None:
         """On a terminal it shows how far it is, and with tries a second time."""
         with mock.patch("pops_companions.many.progress.Progress._tell") as told:
-            words = ["--to", "text", "--pops-tries", str(self.tries)]
+            words = ["--to", "text", "--pops-tries", self.tries]
             self.assertEqual(self.made(OF_THE_MANUAL, *words).status, 0)
         lines = [call.args[0](1.0) for call in told.call_args_list]
         self.assertIn("pops-sheet: 1 of 1 problems", lines)
@@ -953,15 +947,15 @@ class Command(Case):
         self.assertEqual((outcome.status, outcome.output), (3, b""))
         self.assertIn("is no input of pops: pops-import makes one", outcome.error)
         self.assertIn("pops-explain says what is wrong", outcome.error)
-        self.tries.write_text("#!/bin/sh\nexit 4\n")
-        outcome = self.made(OF_THE_MANUAL, "--pops-tries", str(self.tries))
+        self.write_program("plain-tries", "#!/bin/sh\nexit 4\n")
+        outcome = self.made(OF_THE_MANUAL, "--pops-tries", self.tries)
         self.assertEqual((outcome.status, outcome.output), (3, b""))
         self.assertIn("pops-tries ended with status 4", outcome.error)
 
     def test_a_problem_that_only_the_text_of_tries_calls_faulty(self) -> None:
         fault = "problem 1\nline 3: fault 10: bad stipulation\n\n"
-        self.tries.write_text(f"#!/bin/sh\ncat > /dev/null\nprintf '{fault}'\nexit 1\n")
-        outcome = self.made(OF_THE_MANUAL, "--pops-tries", str(self.tries))
+        self.write_program("plain-tries", f"#!/bin/sh\ncat > /dev/null\nprintf '{fault}'\nexit 1\n")
+        outcome = self.made(OF_THE_MANUAL, "--pops-tries", self.tries)
         self.assertEqual((outcome.status, outcome.output), (3, b""))
         self.assertIn("problem 1: pops-tries calls it faulty, and pops sound", outcome.error)
         text = self.room / "fault.tries"

@@ -3,7 +3,6 @@
 import io
 import random
 import re
-import tempfile
 import unittest
 from collections.abc import Callable, Generator, Iterator, Mapping, Sequence
 from pathlib import Path
@@ -90,13 +89,8 @@ def split(path: Path, *words: str) -> tuple[int, bytes]:
     return status, target.getvalue()
 
 
-class BesidePops(unittest.TestCase):
+class BesidePops(support.InRoom):
     """A room in which pops-many and pops solve one input each."""
-
-    def setUp(self) -> None:
-        room = tempfile.TemporaryDirectory()
-        self.addCleanup(room.cleanup)
-        self.room = Path(room.name)
 
     def is_as_pops(self, text: bytes, *words: str) -> int:
         """One input against one run of pops. How many problems were cut."""

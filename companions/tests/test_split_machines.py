@@ -45,7 +45,7 @@ class Machines(SplitRoom):
         self.where = f"problem 1 ({self.input}, line 1)"
 
     def words_there(self, pops_part: str, *more: str, logins: str = "one,2/two") -> list[str]:
-        ssh = self.write("ssh", _SSH)
+        ssh = self.write_program("ssh", _SSH)
         words = self.words_of_split(pops_part, "--sshlogin", logins, "--ssh", ssh, *more)
         words += ["--remote-pops", str(self.room / "stand_in"), "--remote-pops-part", pops_part]
         return words
@@ -180,7 +180,7 @@ class Fails(Machines):
         first = self.pops_part("problem-play-*", "touch '{0}/failed'; kill -9 0".format(self.room))
         self.assertEqual(self.there(first, logins="one").status, 6)
         program = self.pops_part()
-        other = self.write("other", f"{Path(program).read_text()}\n")
+        other = self.write_program("other", f"{Path(program).read_text()}\n")
         words = self.words_there(program, "--resume", logins="one")
         outcome = support.companion("pops-many", *words[:-1], other)
         another = "pops-part on one is another program than pops-part here"

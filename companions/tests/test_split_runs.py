@@ -3,7 +3,6 @@
 import re
 import signal
 import sys
-import time
 import unittest
 
 from pops_companions.many.identity import identity
@@ -134,7 +133,7 @@ class Runs(SplitRoom):
         self.assertFalse(self.report.exists())
 
     def test_a_list_that_fails_is_told(self) -> None:
-        program = self.write("pops_part", "#!/bin/sh\necho no >&2; exit 4\n")
+        program = self.write_program("pops_part", "#!/bin/sh\necho no >&2; exit 4\n")
         outcome = self.split(program)
         self.assertEqual(outcome.status, 6)
         self.assertIn("line 1): pops-part ended with status 4: no\n", outcome.error)
@@ -237,7 +236,7 @@ class Ends(SplitRoom):
     def test_a_journal_of_another_pops_part_is_refused(self) -> None:
         self.interrupted(signal.SIGTERM)
         journal, program = self.journal.read_bytes(), self.pops_part()
-        other = self.write("other", f"#!/bin/sh\n. '{program}.sh'\n\n")
+        other = self.write_program("other", f"#!/bin/sh\n. '{program}.sh'\n\n")
         said = "is of another pops-part: name that one with --pops-part, or remove it"
         refused = (2, b"", f"pops-many: {self.journal} {said}\n")
         self.assertEqual(self.split(other, "--resume"), refused)

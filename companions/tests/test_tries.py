@@ -2,10 +2,8 @@
 
 import csv
 import io
-import tempfile
 import tracemalloc
 import unittest
-from pathlib import Path
 
 from pops_companions.report.events import Menace
 from pops_companions.report.items import FaultyItem
@@ -137,13 +135,8 @@ class Reading(unittest.TestCase):
                     read(TEXT[:length])
 
 
-class Testing(unittest.TestCase):
+class Testing(support.InRoom):
     """pops-test with a text of tries."""
-
-    def setUp(self) -> None:
-        room = tempfile.TemporaryDirectory()
-        self.addCleanup(room.cleanup)
-        self.room = Path(room.name)
 
     def judged(self, text: bytes, tries: bytes, *words: str) -> support.Outcome:
         (self.room / "some.tries").write_bytes(tries)

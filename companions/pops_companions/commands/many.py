@@ -5,7 +5,7 @@ import os
 import sys
 from collections.abc import Sequence
 from contextlib import ExitStack, suppress
-from typing import BinaryIO, NamedTuple, Optional
+from typing import TYPE_CHECKING, BinaryIO, NamedTuple, Optional, Union
 
 from pops_companions import command
 from pops_companions.command import CommandError, Status
@@ -28,6 +28,10 @@ from pops_companions.many.targets import Target
 from pops_companions.many.tasks import Input, Source, Tasks, tasks_of
 from pops_companions.many.unfinished import UnfinishedTarget
 from pops_companions.places import folder_above
+
+if TYPE_CHECKING:
+    # (loaded only by runs that need it)
+    from pops_companions.many.part_program import PartProgram
 
 _FILES_TOLD = 3
 # What the file's name ends in that has what was found of problems that aren't done.
@@ -75,7 +79,7 @@ def reports_of(
         second = None
         if settings.unfinished and limited:
             second = UnfinishedTarget(settings.unfinished, run)
-        elif path and limited:
+        elif path and limited and (settings.each or settings.report):
             second = UnfinishedTarget(path + UNFINISHED, run, Links.REPLACED)
         return Report(tasks, Target(path, run, links) if path else None, second)
 
@@ -99,8 +103,8 @@ def path_of_journal(settings: Settings) -> str:
     """Returns the journal that is named, else one beside the report, else a new one that is temporary."""
     if settings.journal is not None:
         return settings.journal
-    if settings.output is not None:
-        return settings.output.rstrip("/") + ".journal"
+    if settings.report is not None:
+        return settings.report.rstrip("/") + ".journal"
     folder = os.environ.get("TMPDIR", "")
     if not os.access(folder, os.W_OK | os.X_OK):
         folder = "/tmp"
@@ -110,7 +114,7 @@ def path_of_journal(settings: Settings) -> str:
 def open_journal(path: str, settings: Settings, origin: Origin, tasks: int) -> Journal:
     """Returns the run's journal; that of a run that stopped isn't overwritten."""
     try:
-        if settings.journal is None and settings.output is None:
+        if settings.journal is None and settings.report is None:
             # (only its owner reads it)
             new = os.O_CREAT | os.O_EXCL | os.O_NOFOLLOW | os.O_CLOEXEC
             os.close(os.open(path, new, 0o600))
@@ -157,6 +161,7 @@ class ChangedError(CommandError):
     def __init__(self, program: str, journal: Journal):
         to_do = f"the reports in {journal.path} may be of two programs, remove it"
         super().__init__(Status.UNFINISHED, f"{program} was changed during the run: {to_do}")
+        self.program = program
 
 
 def try_out(targets: Sequence[Target]) -> None:
@@ -257,7 +262,8 @@ class Files(NamedTuple):
 class Solving:
     """A run on what the command line asks for."""
 
-    def __init__(self, settings: Settings):
+    def __init__(self, settings: Settings, known: Sequence[Known] = ()):
+        """Reads the inputs and finds the programs, of which some may be known already."""
         self._settings = settings
         self._options = ["--check"] * settings.check + ["--no-board"] * settings.no_board
         self._progress = Progress(NAME)
@@ -268,8 +274,10 @@ class Solving:
         self._programs = programs_of(settings, self._options)
         # (pops, and pops-part where it is needed)
         parts = self._programs.parts
-        paths = [self._programs.whole.path, *([parts.parts.path] if parts else [])]
-        self._known = [Known(path) for path in paths]
+        programs = [self._programs.whole, *([parts.parts] if parts else [])]
+        self._known = [known_of(program, known) for program in programs]
+        if parts:
+            parts.checking.look = self._programs.whole.look
         self._jobs = settings.jobs or len(os.sched_getaffinity(0))
         if settings.split:
             self._programs.whole.seconds = moment_of(settings, len(self._tasks), self._jobs)
@@ -313,7 +321,7 @@ class Solving:
             journal.close(kept=settings.resume)
             raise
         joined = Joined(journal, files.reports, output)
-        joined.refuse = lambda: self._refuse_changed(journal)
+        journal.refuse = joined.refuse = lambda: self._refuse_changed(journal)
         joined.holds_files = elsewhere is not None
         try:
             return self._go(journal, joined, files.table, elsewhere)
@@ -359,7 +367,7 @@ class Solving:
             self._progress.say("stopped")
         except BrokenPipeError:
             settings = self._settings
-            journal.close(kept=settings.output is not None or settings.journal is not None)
+            journal.close(kept=settings.report is not None or settings.journal is not None)
             raise
         except OSError as fault:
             self._progress.say(f"cannot write: {fault.strerror}")
@@ -396,9 +404,16 @@ class Solving:
         )
 
 
-def solve(settings: Settings, output: BinaryIO) -> int:
+def known_of(program: Union[Program, "PartProgram"], known: Sequence[Known]) -> Known:
+    """Returns what a program is, to which it is compared after each start."""
+    found = next((it for it in known if it.program == program.path), None) or Known(program.path)
+    program.look = lambda: found.is_changed
+    return found
+
+
+def solve(settings: Settings, output: BinaryIO, known: Sequence[Known] = ()) -> int:
     """Runs all that the command line asks for; returns the exit status of the runs of pops."""
-    return Solving(settings).solve(output)
+    return Solving(settings, known).solve(output)
 
 
 def main(words: list[str]) -> int:

@@ -6,6 +6,7 @@ from collections.abc import Sequence
 from typing import Optional
 
 from pops_companions import command
+from pops_companions.files import is_device
 from pops_companions.many.program import LOOKED_FOR
 
 NAME = "pops-many"
@@ -48,6 +49,13 @@ class Settings(argparse.Namespace):
         """The inputs; None is standard input."""
         inputs: list[Optional[str]] = [*self.files]
         return inputs or [None]
+
+    @property
+    def report(self) -> Optional[str]:
+        """The report, where it is a file: beside it are the journal and what is unfinished."""
+        if self.output is None or self.each:
+            return self.output
+        return None if is_device(self.output) else self.output
 
 
 def _add_reports(parser: argparse.ArgumentParser) -> None:
@@ -196,7 +204,7 @@ def arguments(words: list[str]) -> Settings:
     settings = parser.parse_args(words, Settings())
     if settings.seconds == 0:
         parser.error("--seconds needs a number above 0")
-    if settings.resume and not (settings.output or settings.journal):
+    if settings.resume and not (settings.report or settings.journal):
         parser.error("--resume needs --output or --journal: the journal of the run that stopped")
     if settings.each and not settings.files:
         parser.error("--each needs FILEs")
@@ -204,7 +212,7 @@ def arguments(words: list[str]) -> Settings:
         parser.error(
             "--each has no single report: --index and --unfinished can't be combined with it"
         )
-    if settings.seconds and not (settings.output or settings.each or settings.unfinished):
+    if settings.seconds and not (settings.report or settings.each or settings.unfinished):
         parser.error("--seconds needs --output, --each or --unfinished: a second file for the rest")
     refuse_split(parser, settings)
     return settings

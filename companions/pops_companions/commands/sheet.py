@@ -16,7 +16,13 @@ from pops_companions.command import CommandError, Status
 from pops_companions.input.given import GivenProblem, given_problems
 from pops_companions.input.given_source import refuse_other_text, warn_of_rest
 from pops_companions.many import sessions
-from pops_companions.many.child_process import MOST_OUTPUT, ChildProcess, Outcome, wrote_more
+from pops_companions.many.child_process import (
+    MOST_OUTPUT,
+    ChildProcess,
+    Outcome,
+    refuse_unlisted,
+    wrote_more,
+)
 from pops_companions.many.program import LOOKED_FOR, MissingError, find
 from pops_companions.many.tries_program import TRIES_LOOKED_FOR, TriesProgram, find_tries
 from pops_companions.report.items import AnyItem, Board, FaultyItem, HeadlessItem, SoundItem
@@ -338,6 +344,7 @@ def printed(words: list[str], room: str) -> Outcome:
     environment = {**os.environ, "TMPDIR": folder, **dict.fromkeys(WRITTEN_TO, room)}
     # (without its input it never begins, should this process end before it is held)
     held = ["/bin/sh", "-c", 'read -r _ && exec "$@"', "sh", *words]
+    refuse_unlisted(held[0])
     child = ChildProcess(held, subprocess.PIPE, subprocess.PIPE, environment)
     with sessions.watched(child.run.pid, room):
         try:

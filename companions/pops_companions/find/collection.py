@@ -8,8 +8,10 @@ import errno
 import os
 import re
 import sqlite3
+import stat
+import time
 from collections.abc import Iterable, Iterator, Sequence
-from contextlib import closing
+from contextlib import closing, contextmanager
 from dataclasses import astuple, dataclass, field, fields
 from typing import Any, NamedTuple, NoReturn, Optional
 
@@ -53,6 +55,14 @@ _HASHES_AT_ONCE = 500
 # fewer for each byte of the file.
 _STEPS_AT_ONCE = 100_000
 _LEAST_STEPS, _STEPS_OF_A_BYTE, _STEPS_OF_AN_ENTRY = 1_000_000, 20, 10_000
+# The seconds that a run waits for another that writes: at a time, and at most.
+_SECONDS_AT_ONCE, _MOST_SECONDS = 1, 600
+# What SQLite's files beside a collection begin with, by what their names end in.
+_BESIDE = {
+    "-journal": (b"\xd9\xd5\x05\xf9\x20\xa1\x63\xd7",),
+    "-wal": (b"\x37\x7f\x06\x82", b"\x37\x7f\x06\x83"),
+    "-shm": (b"\x18\xe2\x2d\x00", b"\x00\x2d\xe2\x18"),
+}
 
 
 def _without_blanks(statement: str) -> str:
@@ -114,24 +124,25 @@ class Collection:
         if not new and not os.path.exists(path):
             reason = os.strerror(errno.ENOENT)
             raise CollectionError(f"cannot open {path}: {reason}: --add makes a collection")
+        _refuse_foreign(path)
         # (what a killed run left half written is taken back where the file may be written)
         mode = "rwc" if new else "rw" if os.access(path, os.W_OK) else "ro"
+        self._path = path
+        self._steps = self._left = _LEAST_STEPS
         try:
-            self._data = sqlite3.connect(f"{_uri(path)}?mode={mode}", uri=True)
+            uri = f"{_uri(path)}?mode={mode}"
+            self._data = sqlite3.connect(uri, _SECONDS_AT_ONCE, isolation_level=None, uri=True)
             self._data.create_function("folded", 1, _folded)
             if new:
-                self._data.execute("BEGIN IMMEDIATE")
-                if not self._tables():
-                    self._make()
-                self._data.commit()
-            (form,) = self._data.execute("PRAGMA application_id").fetchone()
+                with self._whole("IMMEDIATE"):
+                    if not self._tables():
+                        self._make()
+            (form,) = self._asked("PRAGMA application_id").fetchone()
         except sqlite3.Error as error:
             raise CollectionError(f"cannot open {path}: {error}") from None
         if form != _FORM:
             raise CollectionError(f"{path} is no collection of pops-find")
-        self._path = path
-        self._steps = _LEAST_STEPS + _STEPS_OF_A_BYTE * os.path.getsize(path)
-        self._left = self._steps
+        self._steps += _STEPS_OF_A_BYTE * os.path.getsize(path)
         self._data.set_progress_handler(self._is_over, _STEPS_AT_ONCE)
         self._refuse_others()
         self._add_keywords(path)
@@ -143,9 +154,31 @@ class Collection:
 
     def _asked(self, question: str, values: Sequence[Any] = ()) -> sqlite3.Cursor:
         """Asks a question, which may take the steps of a scan: pages that name each other have no end.
+
+        It waits while another run writes.
         """
-        self._left = self._steps
-        return self._data.execute(question, values)
+        end = time.monotonic() + _MOST_SECONDS
+        while True:
+            self._left = self._steps
+            try:
+                return self._data.execute(question, values)
+            except sqlite3.OperationalError as error:
+                if str(error) != "database is locked" or time.monotonic() > end:
+                    raise
+
+    @contextmanager
+    def _whole(self, kind: str) -> Iterator[None]:
+        """What is read is of one state of the file, and all that is written comes at once, or nothing.
+
+        No other run writes meanwhile, if it is IMMEDIATE.
+        """
+        self._asked(f"BEGIN {kind}")
+        try:
+            yield
+            self._asked("COMMIT")
+        except BaseException:
+            self._data.rollback()
+            raise
 
     def reason(self, error: sqlite3.Error) -> str:
         """Returns why a question failed. KeyboardInterrupt where a signal ended it."""
@@ -161,20 +194,23 @@ class Collection:
             "SELECT sql FROM sqlite_master"
             " WHERE sql IS NOT NULL AND NOT (type = 'table' AND name LIKE 'sqlite_stat_')"
         )
-        for (statement,) in self._data.execute(question):
+        for (statement,) in self._asked(question):
             if _without_blanks(str(statement)) not in _OWN:
                 raise CollectionError(f"{self._path} has tables of others than pops-find")
 
     def _add_keywords(self, path: str) -> None:
         """Makes room for keywords in a collection that an older version made."""
-        columns = [row[1] for row in self._data.execute("PRAGMA table_info(problems)")]
-        if "keywords" in columns:
+        if self._has_keywords():
             return
         try:
-            with self._data:
-                self._data.execute(_KEYWORDS)
+            with self._whole("IMMEDIATE"):
+                if not self._has_keywords():
+                    self._data.execute(_KEYWORDS)
         except sqlite3.Error as error:
             raise CollectionError(f"cannot make room for keywords in {path}: {error}") from None
+
+    def _has_keywords(self) -> bool:
+        return any(row[1] == "keywords" for row in self._asked("PRAGMA table_info(problems)"))
 
     def _tables(self) -> int:
         return int(self._data.execute("SELECT count(*) FROM sqlite_master").fetchone()[0])
@@ -194,25 +230,25 @@ class Collection:
 
     def add(self, source: str, entries: Iterable[Entry]) -> int:
         """Adds the problems of a source, whose older ones go; returns their number."""
+        added = list(entries)
+        places = sorted((one, at) for at, entry in enumerate(added) for one in hashes(entry.board))
         try:
-            with self._data:
+            with self._whole("IMMEDIATE"):
                 self._remove(source)
-                (last,) = self._data.execute("SELECT max(id) FROM problems").fetchone()
-                numbered = list(enumerate(entries, (last or 0) + 1))
-                self._left = self._steps + _STEPS_OF_AN_ENTRY * len(numbered)
+                (last,) = self._asked("SELECT max(id) FROM problems").fetchone()
+                first = (last or 0) + 1
+                self._left = self._steps + _STEPS_OF_AN_ENTRY * len(added)
                 marks = ", ".join("?" * (1 + len(fields(Entry))))
                 self._data.executemany(
                     f"INSERT INTO problems (id, {_COLUMNS}) VALUES ({marks})",
-                    ((number, *astuple(entry)) for number, entry in numbered),
+                    ((number, *astuple(entry)) for number, entry in enumerate(added, first)),
                 )
-                rows = sorted(
-                    (one, number) for number, entry in numbered for one in hashes(entry.board)
-                )
+                rows = ((one, first + at) for one, at in places)
                 self._data.executemany("INSERT OR IGNORE INTO positions VALUES (?, ?)", rows)
         except sqlite3.Error as error:
             reason = self.reason(error)
             raise CollectionError(f"cannot write the collection: {reason}") from None
-        return len(numbered)
+        return len(added)
 
     def _remove(self, source: str) -> None:
         rows = self._asked("SELECT id, board FROM problems WHERE source = ?", (source,))
@@ -254,8 +290,7 @@ class Collection:
             for one in hashes(variant.board):
                 by_hash.setdefault(one, []).append(variant)
         best: dict[int, Found] = {}
-        for one, number in self._with_hashes(list(by_hash)):
-            entry = self._entry(number)
+        for one, number, entry in self._with_hashes(list(by_hash)):
             for variant in by_hash[one]:
                 changes = tuple(differences(variant.board, entry.board))
                 found = Found(entry, variant.how, changes)
@@ -263,21 +298,25 @@ class Collection:
                     best[number] = found
         return [found for _, found in sorted(best.items(), key=_nearest_first)]
 
-    def _with_hashes(self, wanted: Sequence[int]) -> Iterator[tuple[int, int]]:
+    def _with_hashes(self, wanted: Sequence[int]) -> Iterator[tuple[int, int, Entry]]:
+        """Yields the problems of these hashes, with hash and number.
+
+        (Older versions left hashes of problems that are gone.)
+        """
         for start in range(0, len(wanted), _HASHES_AT_ONCE):
             some = wanted[start : start + _HASHES_AT_ONCE]
             marks = ", ".join("?" * len(some))
-            question = f"SELECT hash, problem FROM positions WHERE hash IN ({marks})"
+            question = (
+                f"SELECT hash, problem, {_COLUMNS} FROM positions CROSS JOIN problems"
+                f" WHERE hash IN ({marks}) AND id = problem"
+            )
             with closing(self._asked(question, some)) as rows:
-                yield from rows
+                for one, problem, *row in rows:
+                    yield one, problem, self._entry_of(row)
 
-    def _entry(self, number: int) -> Entry:
-        question = f"SELECT {_COLUMNS} FROM problems WHERE id = ?"
-        return self._entry_of(self._data.execute(question, (number,)).fetchone())
-
-    def _entry_of(self, row: Optional[Sequence[Any]]) -> Entry:
+    def _entry_of(self, row: Sequence[Any]) -> Entry:
         """Returns the problem of a row. CollectionError where `add` didn't write it."""
-        if row is None or not all(map(isinstance, row, _TYPES)):
+        if not all(map(isinstance, row, _TYPES)):
             self._refuse_row()
         entry = Entry(*row)
         self._board(entry.board)
@@ -301,6 +340,25 @@ class Collection:
             changes = ("the same key and mates",)
             found += [Found(entry, how, changes) for entry in entries if entry not in known]
         return found
+
+
+def _refuse_foreign(path: str) -> None:
+    """Refuses files of others that have the names of SQLite's files beside a collection: it removes them.
+    """
+    for end, heads in _BESIDE.items():
+        name = os.path.realpath(path) + end
+        try:
+            handle = os.open(name, os.O_RDONLY | os.O_NONBLOCK | os.O_NOFOLLOW | os.O_CLOEXEC)
+        except FileNotFoundError:
+            continue
+        except OSError as error:
+            raise CollectionError(f"cannot open {name}: {error.strerror}") from None
+        with os.fdopen(handle, "rb") as file:
+            is_file = stat.S_ISREG(os.fstat(handle).st_mode)
+            head = file.read(len(heads[0])) if is_file else b""
+        # (it begins with zeros while it is written)
+        if not is_file or any(head) and head not in heads:
+            raise CollectionError(f"{name} isn't a file of SQLite: move it away")
 
 
 def _uri(path: str) -> str:

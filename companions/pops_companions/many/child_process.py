@@ -335,6 +335,12 @@ def rest_of(pipe: int) -> bytes:
     return b"".join(pieces)
 
 
+def refuse_unlisted(program: str) -> None:
+    """Refuses a program that may start others where nobody finds these. OSError, with the reason."""
+    if not sessions.are_listed() and not starts_none(program):
+        raise OSError(errno.ENOSYS, "/proc isn't mounted: what it starts may outlive it")
+
+
 def killed_with_holder(watched: int, process: int) -> None:
     """Lets the kernel kill a process, or the group of a negative number, once nobody holds the writing end
     of a pipe.

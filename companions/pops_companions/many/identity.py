@@ -30,23 +30,23 @@ class _File(NamedTuple):
 
 
 class Known:
-    """A program as it is when a run begins."""
+    """A program as it is when a run begins, and whether it was another one since."""
 
     def __init__(self, program: str):
         """Reads it. OSError where it can't be read."""
         self.program = program
         self._files = _files(program)
         self.identity = _identity_of(self._files)
+        self._was_another = False
 
     @property
     def is_changed(self) -> bool:
-        """Whether it is another program now. One that is gone is none."""
-        try:
-            if all(_state(path) == file.state for path, file in self._files.items()):
-                return False
-            return identity(self.program) != self.identity
-        except OSError:
-            return False
+        """Whether it is another program now, or was one at an earlier look. One that is gone is none."""
+        with suppress(OSError):
+            if not all(_state(path) == file.state for path, file in self._files.items()):
+                self._files = _files(self.program)
+                self._was_another |= _identity_of(self._files) != self.identity
+        return self._was_another
 
 
 def identity(program: str) -> str:

@@ -135,7 +135,7 @@ class Joined:
             if report.unfinished.is_foreign:
                 raise FileExistsError(None, report.unfinished.refusal)
             with report.unfinished.opened() as file:
-                if report.file is not None:
+                if report.file is not None and not report.unfinished.is_device:
                     files.restrict(file.fileno(), report.file.path)
                 for task in tasks:
                     file.writelines(self._marked(task))
@@ -157,7 +157,7 @@ class Joined:
         else:
             text, how_far = known
             yield text
-        yield lines.UNFINISHED + os.fsencode(f"{how_far} ({task.where})\n\n")
+        yield lines.UNFINISHED + os.fsencode(f"{how_far} ({lines.in_a_line(task.where)})\n\n")
 
 
 def write_index(target: Target, tasks: Tasks, journal: Journal) -> None:

@@ -15,7 +15,7 @@ import os
 import re
 import stat
 import zlib
-from collections.abc import Iterable, Iterator, Sequence
+from collections.abc import Callable, Iterable, Iterator, Sequence
 from typing import TYPE_CHECKING, NamedTuple, Optional, Union
 
 from pops_companions.many.tasks import UNFINISHED, Result, Source
@@ -123,6 +123,8 @@ class Journal:
         self.kept: dict[int, Kept] = {}
         self._finished: set[int] = set()
         self.parts: dict[Key, Kept] = {}
+        # Raises what keeps a report from being kept.
+        self.refuse: Callable[[], None] = lambda: None
         # What other programs are, by their names, both as checksums.
         self._programs: dict[bytes, bytes] = {}
         self._tasks = tasks
@@ -242,6 +244,7 @@ class Journal:
     def keep(self, result: Result) -> None:
         """Adds a report; it takes the place of an unfinished one of the same problem. Its file is closed.
         """
+        self.refuse()
         place, report = result.task.place, _report_of(result)
         if result.tasks > 1:
             head = b"tasks %d number %d status %d" % (place, result.tasks, result.status)
@@ -255,6 +258,7 @@ class Journal:
 
     def keep_part(self, part: "Part", report: bytes) -> None:
         """Adds the report of a part."""
+        self.refuse()
         place, phase, number, depth = part.key
         head = b"part %d %s %d depth %d" % (place, phase.encode("ascii"), number, depth)
         self.parts[part.key] = Kept(0, None, *self._add(head, [report]))

@@ -18,7 +18,13 @@ from pathlib import Path
 from typing import IO, NamedTuple, Optional
 
 from pops_companions.many import sessions
-from pops_companions.many.child_process import MOST_OUTPUT, ChildProcess, outcome_of, rest_of
+from pops_companions.many.child_process import (
+    MOST_OUTPUT,
+    ChildProcess,
+    outcome_of,
+    refuse_unlisted,
+    rest_of,
+)
 from pops_companions.many.connections import Connections
 
 _SECONDS_BETWEEN_LOOKS = 0.3
@@ -127,7 +133,7 @@ class Parallel:
         if parallel is None or not _is_gnu(parallel):
             raise ParallelError("--sshlogin needs GNU parallel: install Debian's package parallel")
         self.jobs = jobs
-        self._words = [parallel, "--will-cite", "--line-buffer"]
+        self._words = [parallel, "--plain", "--will-cite", "--line-buffer"]
         self._words += ["--jobs", str(jobs)] if jobs else []
         self._ssh = ssh or _SSH
         self._connections = Connections(self._ssh)
@@ -180,6 +186,7 @@ class Parallel:
         command = _LOGIN.format(unless=UNLESS_OVER, limit=limit, ssh=self._ssh + options)
         (room / "ssh").write_bytes(os.fsencode(command))
         words = self._command(room, jobs)
+        refuse_unlisted(words[0])
         child = ChildProcess(words, subprocess.DEVNULL, subprocess.PIPE, _environment(room))
         self._room, self._child, self._said = room, child, b""
         return child
@@ -261,9 +268,10 @@ def _environment_of(process: int) -> Optional[tuple[int, list[bytes]]]:
 
 
 def _environment(room: Path) -> dict[str, str]:
-    environment = {**os.environ, "PARALLEL_HOME": str(room)}
+    # (what the user wants of GNU parallel elsewhere)
+    environment = {name: it for name, it in os.environ.items() if not name.startswith("PARALLEL")}
+    environment["PARALLEL_HOME"] = str(room)
     environment["PARALLEL_SSH"] = f"sh {shlex.quote(str(room / 'ssh'))}"
-    environment.pop(_NUMBER, None)
     # (without it, jobs on machines where SHELL isn't set do nothing, and say nothing)
     environment["PARALLEL_SHELL"] = "/bin/sh"
     return environment

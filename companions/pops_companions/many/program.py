@@ -20,6 +20,7 @@ from pops_companions.many.child_process import (
     Stream,
     has_room,
     outcome_of,
+    refuse_unlisted,
     rest_of,
     wrote_more,
 )
@@ -159,6 +160,8 @@ class Runs:
         self._running: set[ChildProcess] = set()
         self._lock = threading.Lock()
         self._stopped = False
+        # Looks whether the program is another one now.
+        self.look: Callable[[], object] = lambda: None
 
     def _started(
         self,
@@ -172,10 +175,12 @@ class Runs:
             if self._stopped:
                 raise RunError("stopped")
             try:
+                refuse_unlisted(self._words[0])
                 child = ChildProcess([*self._words, *words], source, errors, output=output)
             except OSError as error:
                 raise RunError(f"{self._name} can't be run: {error.strerror}") from None
             self._running.add(child)
+            self.look()
             return child
 
     def _ended(

@@ -28,6 +28,11 @@ def new_mark() -> str:
     return _MARK + os.urandom(8).hex()
 
 
+def are_listed() -> bool:
+    """Returns whether the system lists processes."""
+    return os.path.exists(f"/proc/{os.getpid()}/stat")
+
+
 def members(session: int) -> list[int]:
     """Returns the processes of a session that haven't ended."""
     found = []

@@ -23,11 +23,16 @@ class Target:
         self._real = files.real_of(path, links)
         self._temporary = f"{self._real}.{run.decode('ascii')[:12]}"
 
+    @property
+    def is_device(self) -> bool:
+        """Whether it is written as it is."""
+        return self._links is Links.FOLLOWED and files.is_device(self.path)
+
     def try_out(self) -> None:
         """Removes what the run left. OSError where the file couldn't be written."""
         if os.path.isdir(self._real):
             raise IsADirectoryError(None, "Is a directory")
-        if self._links is Links.REPLACED or not files.is_device(self.path):
+        if not self.is_device:
             files.try_out(self._temporary)
 
     @contextmanager

@@ -9,7 +9,7 @@ from pops_companions.files import Links
 from pops_companions.many.targets import Target
 from pops_companions.report import lines
 
-# The end of the file: how far its last problem is, and where this begins. (A path may have line ends.)
+# The end of the file: how far its last problem is, and where this begins. (Older versions wrote line ends of a path.)
 _END = re.compile(
     rb"\n%sstopped [^\n]*? \(.*, line [0-9]+\)\n\n\Z" % re.escape(lines.UNFINISHED), re.DOTALL
 )
@@ -27,7 +27,7 @@ class UnfinishedTarget(Target):
 
         A file without content isn't foreign, nor is a device that the user named.
         """
-        if self._links is Links.FOLLOWED and files.is_device(self.path):
+        if self.is_device:
             return False
         try:
             handle = os.open(self._real, _OPEN)

@@ -32,6 +32,11 @@ SOLUTIONS = b"solutions: "
 UNFINISHED = b"unfinished: "
 
 
+def in_a_line(text: str) -> str:
+    r"""Returns a text as one line: a tab is `\t`, a line end `\n`, a backslash `\\`."""
+    return text.replace("\\", "\\\\").replace("\t", "\\t").replace("\n", "\\n")
+
+
 def problem_line(number: int) -> bytes:
     """Returns the first line of an item with its line end."""
     return b"problem %d\n" % number

@@ -25,6 +25,7 @@ from pops_companions.many.identity import Known
 from pops_companions.many.journal import is_begun
 from pops_companions.many.program import RunError
 from pops_companions.many.tries_program import TriesProgram
+from pops_companions.report.lines import in_a_line
 from pops_companions.report.items import AnyItem, Board, FaultyItem, HeadlessItem, SoundItem
 from pops_companions.report.source import UNFINISHED
 from pops_companions.report.tries import TriesItem
@@ -154,7 +155,8 @@ class Work:
         if not isinstance(item, (HeadlessItem, SoundItem)) or item.unfinished is None:
             return item
         place = f"(problem {item.number} of {self._collection}, "
-        return replace(item, unfinished=item.unfinished.replace(f"({self.input}, ", place))
+        kept = os.fsencode(in_a_line(str(self.input))).decode("utf-8", "replace")
+        return replace(item, unfinished=item.unfinished.replace(f"({kept}, ", place))
 
     def _many(self, source: Path, report: Path) -> None:
         """Runs what pops-many runs, which goes on where it was stopped."""
@@ -178,7 +180,7 @@ class Work:
         shown: io.StringIO = _Renaming(sys.stderr, self.named) if sys.stderr.isatty() else said
         try:
             with redirect_stderr(shown):
-                many.solve(many_options.arguments(words), io.BytesIO())
+                many.solve(many_options.arguments(words), io.BytesIO(), self.folder.programs)
             self.folder.seal(report)
         except many.StoppedError:
             raise KeyboardInterrupt from None
@@ -206,6 +208,7 @@ class Work:
         if self._runs.tries is None:
             return {}
         program = TriesProgram(self._runs.tries, self._runs.seconds)
+        program.look = lambda: self.folder.changed
         boards = boards_of(text)
         wanted = [
             _Wanted(problem, boards.get(problem.number), piece.alone(text, False))
@@ -245,8 +248,8 @@ class Work:
             self.failed[number] = str(error)
             self.is_finished = False
             return None
-        # (what can't be read, or is of another problem, isn't kept)
-        if kept is None:
+        # (what can't be read, or is of another problem or program, isn't kept)
+        if kept is None and self.folder.changed is None:
             self.folder.keep(path, text)
         return replace(item, number=number)
 

@@ -160,10 +160,14 @@ class WorkFolder:
         raise CommandError(Status.USAGE, f"{self.path} {reason}")
 
     @property
+    def programs(self) -> list[Known]:
+        """The programs that the run has."""
+        return [it for it in self._programs.values() if it is not None]
+
+    @property
     def changed(self) -> Optional[str]:
         """A program that was changed since the run began."""
-        programs = filter(None, self._programs.values())
-        return next((it.program for it in programs if it.is_changed), None)
+        return next((it.program for it in self.programs if it.is_changed), None)
 
     @staticmethod
     def write(path: Path, text: bytes) -> None:
