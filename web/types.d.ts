@@ -154,7 +154,7 @@ interface YamlLine { indent: number; text: string; raw: string }
 interface ButtonParent extends HTMLElement { children: HTMLCollectionOf<HTMLElement>; firstElementChild: HTMLElement }
 /** The elements of the page with their own types. */
 interface PageElements {
-  text: HTMLTextAreaElement; fen: HTMLInputElement; check: HTMLInputElement; tries: HTMLInputElement; refutations: HTMLInputElement; file: HTMLInputElement; problems: HTMLSelectElement; language: HTMLSelectElement;
+  text: HTMLTextAreaElement; fen: HTMLInputElement; check: HTMLInputElement; tries: HTMLInputElement; refutations: HTMLInputElement; file: HTMLInputElement; problems: HTMLSelectElement; problemNumber: HTMLInputElement; language: HTMLSelectElement;
   solve: HTMLButtonElement; solveThis: HTMLButtonElement; stop: HTMLButtonElement; live: HTMLInputElement; undo: HTMLButtonElement; redo: HTMLButtonElement; men: ButtonParent; squares: ButtonParent;
   gutter: ButtonParent; promotion: ButtonParent; twins: ButtonParent;
 }

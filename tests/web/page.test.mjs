@@ -1167,6 +1167,26 @@ test('files: of many that are dropped all problems are one text, and the page sa
   assert.equal(blocksOf(textNow()).length, 4);
 });
 
+test('contents: of many problems some are listed, and each is reached by its number', async () => {
+  begin(`BeginProblem\n${Array.from({ length: 2000 }, (_, at) => `Title ${at + 1}\nStipulation #1\n`).join('NextProblem\n')}EndProblem\n`);
+  const listed = () => element('problems').children.map(it => it.textContent);
+  const goTo = async (name, value) => {
+    element(name).value = value;
+    element(name).onchange();
+    while (element('problems').value !== String(state.number)) await new Promise(end => { setTimeout(end, 1); });
+  };
+  assert.ok(listed().length < 1000, `${listed().length} entries`);
+  assert.deepEqual([element('problemNumber').hidden, listed().at(-1), listed().includes('1234. 1234 · #1')], [false, '2000. 2000 · #1', false]);
+  for (const [value, number] of [['1234', 1234], ['9999', 2000], ['-5', 1], ['', 1]]) {
+    await goTo('problemNumber', value);
+    assert.deepEqual([state.number, element('problems').value, element('problemNumber').value], [number, String(number), String(number)]);
+  }
+  await goTo('problems', '1230');
+  for (const number of [1229, 1230, 1231, 1234]) assert.ok(listed().includes(`${number}. ${number} · #1`), `${number}`);
+  begin(TEXT);
+  assert.equal(element('problemNumber').hidden, true);
+});
+
 test('after a key in a long text the problem at the cursor is looked for in slices', async () => {
   const long = `${TEXT.replace('EndProblem', 'NextProblem')}${'a '.repeat(1 << 21)}`;
   begin(TEXT);

@@ -85,6 +85,15 @@ export function goToProblem(number) {
   scrollToLine(lineOf(textNow(), block.from), 2);
 }
 
+/** Shows the problem whose number was written, or the nearest one. */
+export function numberWritten() {
+  const field = element('problemNumber');
+  const { length } = blocksOf(textNow());
+  const number = Math.min(Math.max(Math.trunc(Number(field.value)) || state.number, 1), length);
+  field.value = String(number);
+  goToProblem(number);
+}
+
 /**
  * Returns the problem on the board, after a new one was added to a text without problems.
  * @returns {Block}
