@@ -12,6 +12,8 @@ type Men = Map<Square, Man>;
 interface Span { from: number; to: number }
 /** A part of a text, and what replaces it. */
 interface Replacement extends Span { said: string }
+/** An edit of a text: parts that are removed, with the blanks before them, and parts that are replaced. */
+interface Edit { gone: Span[]; put: Replacement[] }
 
 /** A position in FEN: the squares that NoCastling would name, and the square that a pawn has just crossed. */
 interface Fen { men: Men; turn: Colour; noCastling: Square[]; crossed: Square | null }
@@ -199,5 +201,6 @@ type Crew = import('./crew.js').Crew;
 
 interface Array<T> {
   findLast(holds: (value: T, index: number, all: T[]) => boolean): T | undefined;
+  findLastIndex(holds: (value: T, index: number, all: T[]) => boolean): number;
 }
 

@@ -6,7 +6,7 @@ import { impossibleCounts } from '../items.js';
 import { changed, countOf, exchanged, readFen } from '../position.js';
 import { inSlices, LONG_TEXT } from '../slices.js';
 import {
-  blockAt, blocksOf, fenOfBlock, lineOf, menOf, NEW_PROBLEM, readText, tailOf, withFen, withField, withLine, withMen, withoutLines, withTail,
+  blockAt, blocksOf, cleared, fenOfBlock, lineOf, menOf, NEW_PROBLEM, readText, tailOf, withFen, withLine, withMen, withTail,
 } from '../text.js';
 import { say } from '../words.js';
 import { fitPart, followCaret, scrollToLine, select, selectionNow, showText } from './area.js';
@@ -138,9 +138,7 @@ function clearProblem() {
   endTyping();
   leave();
   const { from } = blockMade();
-  let text = withoutLines(withMen(textNow(), from, new Map()), from, ['title', 'origin', 'remark']);
-  for (const name of ['EnPassant', 'NoCastling']) text = withField(text, from, name, null);
-  setText(text);
+  setText(cleared(textNow(), from));
 }
 
 /**
