@@ -19,6 +19,11 @@ export const FLAGS = ['SetPlay', 'Variation', 'NoBoard'];
 export const VALUES = ['MaxSolutions', 'EnPassant', 'NoCastling'];
 export const CONDITIONS = ['Circe', 'Madrasi'];
 export const NEW_PROBLEM = 'BeginProblem\nStipulation #2\nEndProblem\n';
+/**
+ * Adds a new problem to a text without problems.
+ * @param {string} text
+ */
+export const withNewProblem = text => `${text}${!text || text.endsWith('\n') ? '' : '\n'}${NEW_PROBLEM}`;
 /** @param {string} word @param {string} full */
 export const isShort = (word, full) => word.length >= 3 && full.toLowerCase().startsWith(word.toLowerCase());
 /** @param {string} word */

@@ -169,7 +169,13 @@ test('editing: board, FEN, undo and redo', () => {
 test('editing: a text without problems gets one', () => {
   setText('');
   takeFen('8/8/8/8/8/8/8/K7 w');
-  assert.equal(textNow(), 'BeginProblem\nPieces White Ka1\nStipulation #2\nEndProblem\n');
+  const made = 'BeginProblem\nPieces White Ka1\nStipulation #2\nEndProblem\n';
+  assert.equal(textNow(), made);
+  for (const [act, wanted] of [[() => takeFen('8/8/8/8/8/8/8/K7 w'), made], [() => element('next').onclick(), made.replace('Pieces White Ka1\n', '')]]) {
+    setText('a word');
+    act();
+    assert.equal(textNow(), `a word\n${wanted}`);
+  }
 });
 
 test('fields: a value goes into the text', () => {

@@ -149,6 +149,20 @@ test('play: a stipulation by choice and number', () => {
   assert.deepEqual(made.map(it => stipulationOf(...it)), ['#3', '#3', 'h#2.5', 'h=2', 's#2', 'h#2', '#16', 'h#2*', null]);
 });
 
+test('store: undo keeps few long texts, many short ones, and always the last step', () => {
+  const long = (/** @type {number} */ number, millions = 3) => `${number}`.padEnd(millions << 20);
+  const steps = new Steps(long(0));
+  for (let number = 1; number < 20; number++) steps.add(long(number));
+  assert.deepEqual([steps.texts.length, steps.place, steps.go(-1)?.startsWith('18 ')], [10, 9, true]);
+  steps.add('short');
+  assert.deepEqual([steps.texts.length, steps.go(-1)?.startsWith('18 '), steps.go(1)], [10, true, 'short']);
+  for (const number of [1, 2, 3]) steps.add(long(number, 20));
+  assert.deepEqual([steps.texts.length, steps.go(-1)?.startsWith('2 '), steps.has(-1), steps.has(1)], [2, true, false, true]);
+  const short = new Steps('');
+  for (let number = 1; number < 400; number++) short.add(`${number}`);
+  assert.deepEqual([short.texts.length, short.place, short.texts[0]], [200, 199, '200']);
+});
+
 test('store: files are named after the title', () => {
   assert.deepEqual(['A first problem', 'Über “Größe”, 2.', '../../x', '', null].map(it => fileNameOf(it, 'pop')),
     ['A-first-problem.pop', 'Über-Größe-2.pop', 'x.pop', 'pops.pop', 'pops.pop']);

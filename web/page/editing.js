@@ -6,7 +6,7 @@ import { impossibleCounts } from '../items.js';
 import { changed, countOf, exchanged, readFen } from '../position.js';
 import { inSlices, LONG_TEXT } from '../slices.js';
 import {
-  blockAt, blocksOf, cleared, fenOfBlock, lineOf, menOf, NEW_PROBLEM, readText, tailOf, withFen, withLine, withMen, withTail,
+  blockAt, blocksOf, cleared, fenOfBlock, lineOf, menOf, readText, tailOf, withFen, withLine, withMen, withNewProblem, withTail,
 } from '../text.js';
 import { say } from '../words.js';
 import { fitPart, followCaret, scrollToLine, select, selectionNow, showText } from './area.js';
@@ -99,7 +99,7 @@ export function numberWritten() {
  * @returns {Block}
  */
 function blockMade() {
-  if (!blockNow()) showText(textNow() + NEW_PROBLEM);
+  if (!blockNow()) showText(withNewProblem(textNow()));
   return /** @type {Block} */ (blockNow());
 }
 
@@ -310,7 +310,7 @@ function sayImported(made) {
 export function addProblem() {
   endTyping();
   const blocks = blocksOf(textNow());
-  const text = blocks.length ? withLine(textNow(), blocks[blocks.length - 1], 'NextProblem\nStipulation #2') : textNow() + NEW_PROBLEM;
+  const text = blocks.length ? withLine(textNow(), blocks[blocks.length - 1], 'NextProblem\nStipulation #2') : withNewProblem(textNow());
   state.choose(blocks.length + 1);
   setText(text);
 }
