@@ -64,8 +64,15 @@ interface Item {
 interface SoundItem extends Item { asked: Asked }
 /** A faulty problem of a report. */
 interface FaultyItem extends Item { fault: ReportFault }
-/** Moves of a tree or a word, the moves before them, and the rows after them. */
-interface Row { moves: Move[]; path: Move[]; below: Row[]; word?: string }
+/** Moves of a tree or a word, the moves before them, and the rows after them, which are made when they are asked for; the lines that it is
+    made of, and the number of rows above it. */
+interface Row extends Span { moves: Move[]; path: Move[]; level: number; word?: string; hasBelow: boolean; readonly below: Row[] }
+/** What rows are made of: the lines of a phase, what receives each list of rows, what makes the rows of some lines. */
+interface RowsGiven {
+  solutions: Solution[];
+  made: (rows: Row[], above: Row | null) => void;
+  rowsIn: (given: RowsGiven, span: Span, above: { level: number, path: Move[] }) => Row[];
+}
 
 // Names, twins, and what the text says of a problem.
 
@@ -187,7 +194,7 @@ interface ComparedCell<T> { rows: T[]; said: string[]; isChanged: boolean }
 interface Comparison<T> { columns: ComparedColumn<T>[]; rows: { label: string; cells: ComparedCell<T>[] }[]; left: number }
 /** A row with its place in the tree, and its elements once they are drawn. */
 interface TreeRow extends Row {
-  below: TreeRow[]; parent: TreeRow | null; group: Group; index: number; siblings: TreeRow[]; wasOpen?: boolean;
+  readonly below: TreeRow[]; parent: TreeRow | null; group: Group; index: number; siblings: TreeRow[]; wasOpen?: boolean;
   line?: HTMLElement; list?: ListBox; turn: HTMLElement; buttons: HTMLElement[]; brief?: HTMLElement;
 }
 /** A move of a row. */

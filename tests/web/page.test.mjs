@@ -385,6 +385,30 @@ test('reporting: a long report is shown a number of lines at a time, and saved w
   assert.deepEqual([element('report').textContent, element('moreReport').hidden], [REPORT, true]);
 });
 
+test('tree: of a report that grows only the lines from the last first move on become rows, and the tree is the one that is drawn at once', () => {
+  const shown = () => {
+    views.tree.foldAll(true);
+    return element('tree').textContent;
+  };
+  begin(TEXT, MANY);
+  const wanted = shown();
+  views.tree.foldAll(false);
+  for (const [lines, first] of [[100, 63], [63 * 5, 63 * 4], [63 * 62 + 1, 63 * 62], [MANY_LINES.length - 1, 63 * 62]]) {
+    const grown = `problem 1\nh#1\nplay\n${MANY_LINES.slice(0, lines).join('')}`;
+    begin(TEXT, grown);
+    const { solutions } = state.items[0].phases[0];
+    assert.equal(solutions.length, lines);
+    const own = [...solutions];
+    for (let at = 0; at < first; at++) Object.defineProperty(solutions, at, { get() { throw new Error('looked at'); } });
+    reportGrew(MANY.slice(grown.length));
+    drawGrowth();
+    for (let at = 0; at < first; at++) Object.defineProperty(solutions, at, { value: own[at] });
+    assert.equal(shown(), wanted);
+    assert.deepEqual(views.tree.groups[0].rows.map(it => it.index), SQUARES.map((_, at) => at));
+    assert.equal(views.tree.groups[0].rows.every(it => it.siblings === views.tree.groups[0].rows), true);
+  }
+});
+
 test('tree: of many rows a number is unfolded, and all are folded', () => {
   begin(TEXT, MANY);
   views.tree.foldAll(true);
@@ -672,6 +696,32 @@ test('kept: of a text that is replaced and too long to be kept the page says so,
     takeText(TWO_MOVES);
     assert.equal(unkeptNow(), say('unkeptReplaced', { letters }));
   });
+  begin(TEXT);
+});
+
+test('keeping: whether a text is kept is found in the list, also where there is no room for another', () => {
+  forgetAll();
+  withRoom(500, () => {
+    assert.deepEqual([keepProblem(TEXT), keepProblem(withRemark(2000)), keepProblem(TEXT)], [true, false, true]);
+    withRoom(10, () => assert.equal(keepProblem(TEXT), true));
+  });
+  assert.deepEqual(keptTexts(), [TEXT]);
+  assert.deepEqual([withRemark(100001), ' '].map(it => keepProblem(it)), [false, false]);
+  forgetAll();
+});
+
+test('keeping: nobody misses blanks, however many: they are neither kept nor asked for, nor is their loss told of', () => {
+  forgetAll();
+  begin(TEXT);
+  takeText(TWO_MOVES);
+  forgetAll();
+  begin(' \n'.repeat(60000));
+  withRoom(1000, () => {
+    keepLong();
+    assert.deepEqual([unkeptNow(), asksToStay()], ['', false]);
+    takeText(TEXT);
+  });
+  assert.deepEqual([unkeptNow(), asksToStay(), keptTexts()], ['', false, []]);
   begin(TEXT);
 });
 
