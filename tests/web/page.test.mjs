@@ -178,6 +178,28 @@ test('editing: a text without problems gets one', () => {
   }
 });
 
+test('a text without a problem or with a word before it: the board\'s buttons make one, YAML says that there is none, and nothing goes on from the diagram', () => {
+  for (const name of ['mirror', 'upright', 'turn', 'exchange', 'clear']) {
+    setText('a b c');
+    changeBoard(name);
+    assert.equal(textNow(), 'a b c\nBeginProblem\nStipulation #2\nEndProblem\n');
+  }
+  for (const text of ['a b c', '', 'x'.repeat(6000)]) {
+    setText(text);
+    helpersOf(() => OUTS.outYaml());
+    assert.deepEqual([Helper.all.length, noteNow()], [0, say('none')]);
+  }
+  setText(`x ${TEXT}`);
+  OUTS.outYaml();
+  assert.match(noteNow(), /^Problem 1 was left out: there is no BeginProblem/);
+  for (const text of ['a b c', 'BeginProblem\n', TEXT]) {
+    setText(text);
+    solveFromHere();
+    makeProblem();
+    assert.equal(textNow(), text);
+  }
+});
+
 test('fields: a value goes into the text', () => {
   begin(TEXT);
   element('field-Title').value = 'A';
