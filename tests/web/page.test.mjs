@@ -622,11 +622,8 @@ test('visit: texts for undo, the problem and its report survive a reload', () =>
 
 const withRemark = letters => TEXT.replace('Pieces', `Remark ${'x'.repeat(letters)}\nPieces`);
 const unkeptNow = () => (element('unkept').hidden ? '' : element('unkept').textContent);
-/** Stores a long text at once, which the page does in slices on a slow machine. */
-function keepLong() {
-  keepText();
-  sayUnkept();
-}
+/** Stores a long text at once, which the page does a moment later. */
+const keepLong = () => storeVisit();
 
 /** Returns whether the page asks before it is left. */
 function asksToStay() {
@@ -681,6 +678,44 @@ test('visit: a long text is stored at each change, and the next visit in another
   sessionStorage.setItem = setItem;
   begin(TEXT);
 });
+
+test('visit: a long text is stored a moment after changes, once for all of them, and at once before the page goes', () => withSlowClock(pass => {
+  begin(TEXT);
+  storeVisit();
+  const visits = [];
+  const { setItem } = localStorage;
+  localStorage.setItem = (name, value) => {
+    if (name === 'pops.visit') visits.push(JSON.parse(value).steps.texts.at(-1));
+    setItem(name, value);
+  };
+  const longs = [200001, 200002, 200003, 200004, 200005].map(withRemark);
+  for (const long of longs.slice(0, 3)) {
+    setText(long);
+    keepText();
+    sayUnkept();
+  }
+  assert.deepEqual([visits.length, unkeptNow()], [0, '']);
+  pass();
+  assert.equal(visits.length === 1 && visits[0] === longs[2], true);
+  for (let passes = 0; passes < 9; passes++) pass();
+  visits.length = 0;
+  setText(longs[3]);
+  sayUnkept();
+  send('pagehide', {});
+  assert.equal(visits.length === 1 && visits[0] === longs[3], true);
+  withRoom(1000, () => {
+    setText(longs[4]);
+    sayUnkept();
+    for (let passes = 0; passes < 30 && !unkeptNow(); passes++) pass();
+    assert.equal(unkeptNow(), say('unkept'));
+  });
+  localStorage.setItem = setItem;
+  setText(TEXT);
+  keepText();
+  sayUnkept();
+  assert.equal(unkeptNow(), '');
+  for (let passes = 0; passes < 9; passes++) pass();
+}));
 
 test('visit: a short text that there is no room for isn\'t taken for the one before', () => {
   begin(TWO_MOVES);
@@ -1167,7 +1202,7 @@ test('beside: a text that was changed meanwhile stays; a worker that fails is to
   begin(TEXT);
   const [late, failing] = helpersOf(() => [takeText(YAML), takeText(`${YAML}\n`)]);
   late.answer();
-  assert.equal(textNow(), `${YAML}\n`);
+  assert.deepEqual([textNow(), noteNow()], [`${YAML}\n`, say('importChanged')]);
   failing.onerror({ message: 'no room' });
   assert.equal(noteNow(), say('failed', { fault: 'no room' }));
   assert.equal(textNow(), `${YAML}\n`);

@@ -213,8 +213,10 @@ export function takeText(given) {
   let isShown = false;
   const isMade = doChore('import', { text }, made => {
     if (!isShown) replaceText(made.text ?? text);
-    else if (textNow() !== text) return;
-    else if (made.text) setText(made.text);
+    else if (textNow() !== text) {
+      note(say('importChanged'));
+      return;
+    } else if (made.text) setText(made.text);
     sayImported(made);
   }, fault => note(say('failed', { fault })));
   if (isMade) return;
