@@ -36,7 +36,7 @@ function columnOf(kind, label, row, below) {
 }
 
 /** @param {Row} row */
-const hasVariations = row => row.below.some(it => !it.word && it.below.length);
+const hasVariations = row => row.below.some(it => !it.word && it.hasBelow);
 
 /**
  * Returns a column's cell for a reply.
@@ -68,6 +68,22 @@ function withChanges(cells, columns) {
   return cells.map((cell, at) => ({ ...cell, isChanged: isOther[at] || (at === place && hasChanges) }));
 }
 
+/** @param {{ kind: string, rows: Row[] }[]} phases @param {string} kind */
+const rowsIn = (phases, kind) => phases.find(it => it.kind === kind)?.rows ?? [];
+
+/**
+ * Returns whether phases of a problem can be compared: whether there are two columns.
+ * @param {{ kind: string, rows: Row[] }[]} phases
+ */
+export function isComparable(phases) {
+  let columns = (rowsIn(phases, 'set').length ? 1 : 0) + rowsIn(phases, 'play').length;
+  for (const it of rowsIn(phases, 'tries')) {
+    if (columns > 1) break;
+    columns += hasVariations(it) ? 1 : 0;
+  }
+  return columns > 1;
+}
+
 /**
  * Compares the phases of a problem; null if there is nothing to compare. Tries without variations are left out and counted.
  * @template {Row} T
@@ -75,8 +91,7 @@ function withChanges(cells, columns) {
  * @returns {Comparison<T> | null}
  */
 export function comparisonOf(phases) {
-  const rowsIn = (/** @type {string} */ kind) => phases.find(it => it.kind === kind)?.rows ?? [];
-  const [set, tries, play] = ['set', 'tries', 'play'].map(rowsIn);
+  const [set, tries, play] = ['set', 'tries', 'play'].map(kind => /** @type {T[]} */ (rowsIn(phases, kind)));
   const shown = tries.filter(hasVariations).slice(0, MOST_TRIES);
   const ofRow = (/** @type {string} */ kind) => (/** @type {T} */ it) => columnOf(kind, firstSaid(it), it, /** @type {T[]} */ (it.below));
   const keys = play.map(ofRow('play'));

@@ -6,14 +6,19 @@ import { sayCondition } from './names.js';
 import { companions } from './out/companions.js';
 import { givenOf } from './outputs.js';
 import { goToProblem } from './page/editing.js';
-import { blockNow, textNow } from './page/state.js';
-import { inSlices } from './slices.js';
+import { blockNow, state, textNow } from './page/state.js';
+import { atOnce, inSlices } from './slices.js';
 import { blocksOf, CONDITIONS, fieldsOf, isShort, menOf, readProblem, sidesOf, valueOf } from './text.js';
 import { say } from './words.js';
 
 const LONGEST_NAME = 60;
-// No list of more problems is shown.
-const MOST_LISTED = 200000;
+// Of more problems the list shows some, since browsers lay out all entries of a list at once: so many on each side of the one on the board,
+// and at most so many others, at equal distances.
+const MOST_LISTED = 1000;
+const LISTED_BESIDE = 200;
+const MOST_OTHERS = 500;
+// What is beside stays the same until another hundred is nearer.
+const HUNDRED = 100;
 
 /**
  * Returns a problem of a text with its number and names.
@@ -32,10 +37,11 @@ function contentOf(text, block) {
 }
 
 /**
- * Returns the problems of a text with their numbers and names.
+ * Returns a problem of a text that has one of this number, with its names.
  * @param {string} text
+ * @param {number} number
  */
-export const contentsOf = text => blocksOf(text).map(block => contentOf(text, block));
+export const contentAt = (text, number) => contentOf(text, blocksOf(text)[number - 1]);
 
 /**
  * Names a problem for the list: its number, then title and stipulation, or stipulation and men.
@@ -54,71 +60,99 @@ function nameOfProblem({ number, title, asked, men }) {
 const placeOfTwin = ({ title }) => companions.labelAndTitle(title)[1].place;
 
 /**
- * Returns the group of twins that a problem belongs to, each with what changes in it; empty if it has no twins.
+ * Finds step by step whether a problem can be the next twin of the one before it.
  * @param {string} text
- * @param {Content[]} contents
  * @param {number} number
+ * @returns {Generator<void, boolean>}
  */
-export function twinsOf(text, contents, number) {
-  let [first, last] = [number - 1, number];
-  /** @param {number} at whether this problem can be the next twin of the one before it */
-  const mayContinue = at => at > 0 && at < contents.length && placeOfTwin(contents[at]) > placeOfTwin(contents[at - 1]);
-  while (mayContinue(first)) first--;
-  while (mayContinue(last)) last++;
-  if (last - first < 2) return [];
+function* mayContinue(text, number) {
   const blocks = blocksOf(text);
-  const given = givenOf(`BeginProblem${text.slice(blocks[first].start, blocks[last - 1].end)}\nEndProblem`);
-  for (const { title, twins } of companions.groups(contents.slice(first, last).map(itemOfContent), given, 'utf-8', false)) {
-    const own = twins.map((/** @type {any} */ { item, label, change }) => ({ ...contents[first + item.number - 1], title, label, change }));
+  if (number < 2 || number > blocks.length) return false;
+  for (const block of [blocks[number - 2], blocks[number - 1]]) yield* readProblem(text, block);
+  return placeOfTwin(contentAt(text, number)) > placeOfTwin(contentAt(text, number - 1));
+}
+
+/**
+ * Finds step by step the group of twins that a problem belongs to, each with what changes in it; empty if it has no twins.
+ * @param {string} text
+ * @param {number} number
+ * @returns {Generator<void, ContentTwin[]>}
+ */
+function* readTwins(text, number) {
+  let [first, last] = [number, number];
+  while (yield* mayContinue(text, first)) first--;
+  while (yield* mayContinue(text, last + 1)) last++;
+  if (first === last) return [];
+  const blocks = blocksOf(text).slice(first - 1, last);
+  const contents = blocks.map(block => contentOf(text, block));
+  const given = givenOf(`BeginProblem${text.slice(blocks[0].start, blocks[blocks.length - 1].end)}\nEndProblem`);
+  for (const { title, twins } of companions.groups(contents.map(itemOfContent), given, 'utf-8', false)) {
+    const own = twins.map((/** @type {any} */ { item, label, change }) => ({ ...contents[item.number - 1], title, label, change }));
     if (own.length > 1 && own.some((/** @type {ContentTwin} */ it) => it.number === number)) return own;
   }
   return [];
 }
 
+/**
+ * Returns the group of twins that a problem belongs to, as `readTwins` finds it.
+ * @param {string} text
+ * @param {number} number
+ */
+export const twinsOf = (text, number) => atOnce(readTwins(text, number));
+
+/**
+ * Lists the numbers of the problems that the list shows, in order.
+ * @param {number} all the number of problems
+ * @param {number} own the one on the board
+ */
+export function listedNumbers(all, own) {
+  const numbers = Array.from({ length: Math.min(all, MOST_LISTED) }, (_, at) => at + 1);
+  if (all <= MOST_LISTED) return numbers;
+  const middle = Math.round(own / HUNDRED) * HUNDRED;
+  const distance = 10 ** Math.ceil(Math.log10(all / MOST_OTHERS));
+  const beside = Array.from({ length: 2 * LISTED_BESIDE + 1 }, (_, at) => middle - LISTED_BESIDE + at).filter(it => it > 0 && it <= all);
+  const others = Array.from({ length: Math.floor(all / distance) }, (_, at) => (at + 1) * distance);
+  return [...new Set([1, ...beside, ...others, all])].sort((one, next) => one - next);
+}
+
 /** Ends the showing of an earlier list. */
 let endShowing = () => {};
 
-/** Shows the list if there is more than one problem, and the twins of the one on the board; a long list in slices. */
+/** Shows the list if there is more than one problem, and the twins of the one on the board; of a long text in slices. */
 export function showContents() {
   endShowing();
   const text = textNow();
   const { length } = blocksOf(text);
-  element('contents').hidden = length < 2 || length > MOST_LISTED;
-  if (length > MOST_LISTED) return;
-  endShowing = inSlices(text.length, shownContents(text), contents => {
-    element('problems').value = String(blockNow()?.number ?? 1);
-    showTwins(twinsOf(text, contents, blockNow()?.number ?? 1));
-  });
+  element('contents').hidden = length < 2;
+  element('problemNumber').hidden = length <= MOST_LISTED;
+  element('problemNumber').max = String(length);
+  endShowing = inSlices(text.length, shownContents(text, Math.min(state.number, length)), showTwins);
 }
 
 /**
- * Makes the list of a text's problems step by step, if it isn't shown already.
+ * Fills the list of a text's problems step by step, if it isn't shown already; returns the twins of the one on the board.
  * @param {string} text
- * @returns {Generator<void, Content[]>}
+ * @param {number} own
+ * @returns {Generator<void, ContentTwin[]>}
  */
-function* shownContents(text) {
-  /** @type {Content[]} */
-  const contents = [];
+function* shownContents(text, own) {
+  const blocks = blocksOf(text);
+  if (!blocks.length) return [];
   /** @type {string[]} */
   const names = [];
-  for (const block of blocksOf(text)) {
-    yield* readProblem(text, block);
-    const problem = contentOf(text, block);
-    contents.push(problem);
-    names.push(nameOfProblem(problem));
+  const numbers = listedNumbers(blocks.length, own);
+  for (const number of numbers) {
+    yield* readProblem(text, blocks[number - 1]);
+    names.push(nameOfProblem(contentAt(text, number)));
     yield;
   }
   const list = element('problems');
-  if (list.dataset.names === names.join('\n')) return contents;
-  const options = [];
-  for (const [index, name] of names.entries()) {
-    options.push(new Option(name, String(index + 1)));
-    yield;
+  if (list.dataset.names !== names.join('\n')) {
+    list.replaceChildren(...names.map((name, at) => new Option(name, String(numbers[at]))));
+    list.dataset.names = names.join('\n');
   }
-  list.replaceChildren();
-  for (const option of options) list.append(option);
-  list.dataset.names = names.join('\n');
-  return contents;
+  list.value = element('problemNumber').value = String(own);
+  return yield* readTwins(text, own);
 }
 
 /** @param {ContentTwin[]} twins */

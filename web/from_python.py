@@ -35,6 +35,7 @@ PARTS = {
     "pops_companions.import_.options": ("option_left_out",),
     "pops_companions.import_.popeye": ("begins", "read_popeye"),
     "pops_companions.import_.posing": ("posed",),
+    "pops_companions.import_.words": ("Unreadable",),
     "pops_companions.import_.yaml_problems": ("read_yaml",),
     "pops_companions.input.given": ("given_problems",),
     "pops_companions.input.writing": ("text_of_problems",),

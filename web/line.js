@@ -70,19 +70,20 @@ function choosePromotion(from, to) {
   element('promotion').firstElementChild.focus();
 }
 
-const reachedNow = () => ({ men: state.walked ?? new Map(), moves: state.place?.moves ?? [] });
+/** Returns the position shown and the moves to it; null for the diagram. */
+const reachedNow = () => (state.walked && state.place?.moves.length ? { men: state.walked, moves: state.place.moves } : null);
 
 /** Makes the shown position the problem's diagram. */
 export function makeProblem() {
-  const block = blockNow();
-  if (block) setText(withReached(textNow(), block, reachedNow()));
+  const [block, reached] = [blockNow(), reachedNow()];
+  if (block && reached) setText(withReached(textNow(), block, reached));
 }
 
 /** Adds the shown position as a problem with the moves left to play, and solves it. */
 export function solveFromHere() {
-  const block = blockNow();
-  if (!block) return;
-  const text = withProblemAfter(textNow(), block, reachedNow());
+  const [block, reached] = [blockNow(), reachedNow()];
+  if (!block || !reached) return;
+  const text = withProblemAfter(textNow(), block, reached);
   if (!text) {
     note(say('over'));
     return;

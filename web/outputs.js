@@ -76,13 +76,26 @@ export function shortText(item, men) {
 }
 
 /**
+ * Reads the problems of a text that becomes YAML: those that are left out, with the reasons, if it can't be read.
+ * @param {string} text
+ */
+function problemsRead(text) {
+  try {
+    return companions.readProblems(text);
+  } catch (fault) {
+    if (!(fault instanceof companions.Unreadable)) throw fault;
+    return { problems: [], left_out: [{ name: '1', reasons: [/** @type {any} */ (fault).message.text] }] };
+  }
+}
+
+/**
  * Writes the problems of a text in YAML, with the solutions of these items, twins as one problem; with the reasons, in the page's language,
  * why some are left out.
  * @param {string} text
  * @param {Item[]} items
  */
 export function yamlOf(text, items) {
-  const reading = companions.readProblems(text);
+  const reading = problemsRead(text);
   const solved = py.dict(items.map(it => [it.number, Object.assign(knownItem(it), it.isWhole ? {} : { unfinished: 'stopped' })]));
   const lost = reading.left_out.map((/** @type {{ name: string, reasons: string[] }} */ { name, reasons }) => say('lostProblem',
     { number: name, reason: reasons.map(sayReason).join('; ') }));

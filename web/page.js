@@ -8,7 +8,7 @@ import { makeProblem, move, solveFromHere, togglePlaying } from './line.js';
 import { showAge } from './page/age.js';
 import { listenToArea, sayPart, showText } from './page/area.js';
 import {
-  addProblem, change, changeBoard, fenWritten, goSteps, goToProblem, joinTail, keepText, placed, setText, showProblem,
+  addProblem, change, changeBoard, fenWritten, goSteps, goToProblem, joinTail, keepText, numberWritten, placed, setText, showProblem,
   showTail, takeCorrected, takeText, typed,
 } from './page/editing.js';
 import { placeMarks, whenCorrected } from './page/faults.js';
@@ -111,6 +111,7 @@ function listen() {
   listenToArea(() => setText(''));
   element('next').onclick = addProblem;
   element('problems').onchange = () => goToProblem(Number(element('problems').value));
+  element('problemNumber').onchange = numberWritten;
   element('solve').onclick = () => solve();
   element('solveThis').onclick = solveThis;
   element('stop').onclick = stopSolving;

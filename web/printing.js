@@ -1,6 +1,6 @@
 // @ts-check
 // The printed sheet: the problem on the board with its solutions, twins under one diagram.
-import { contentsOf, twinsOf } from './contents.js';
+import { contentAt, twinsOf } from './contents.js';
 import { element, madeWith } from './elements.js';
 import { sayDated, sayTotal } from './names.js';
 import { diagramOf } from './outputs.js';
@@ -13,9 +13,9 @@ const MANY_LINES = 70;
 const MOST_LINES = 300;
 
 export function fillPrint() {
-  const contents = contentsOf(textNow());
-  const own = contents.find(it => it.number === blockNow()?.number) ?? null;
-  const twins = own ? twinsOf(textNow(), contents, own.number) : [];
+  const { number } = blockNow() ?? { number: 0 };
+  const own = number ? contentAt(textNow(), number) : null;
+  const twins = own ? twinsOf(textNow(), own.number) : [];
   const shown = twins.length ? twins : own ? [{ ...own, label: { text: '' }, change: '' }] : [];
   element('print').replaceChildren(printedDiagram(shown[0] ?? null), printedLines(shown));
 }

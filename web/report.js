@@ -215,56 +215,99 @@ export function itemsOf(report) {
 export const labelOf = move => move.label.replace(/^([0-9]+\.+)?/, (Math.floor((move.half + 1) / 2)) + (move.half % 2 ? '.' : '...'));
 
 /**
- * Makes rows of a phase: each row has its moves and the rows below it. Lines of help play with the same beginning share
- * its rows.
+ * Makes the rows of a phase: each row has its moves and the rows below it, which are made when they are asked for. Lines of help play with
+ * the same beginning share its rows.
  * @param {Phase} phase
  * @param {boolean} isHelp
+ * @param {{ from?: number, made?: (rows: Row[], above: Row | null) => void }} [more] the first line, which begins a row; what receives each
+ *   list of rows that is made, with the row above it
  */
-export function rowsOf(phase, isHelp) {
-  return isHelp ? sharedRows(phase.solutions.map(it => it.moves), []) : nestedRows(phase.solutions);
-}
-
-/** @param {Solution[]} solutions */
-function nestedRows(solutions) {
-  /** @type {Row} */
-  const root = { moves: [], path: [], below: [] };
-  const open = [root];
-  for (const { moves: all, level, word } of solutions) {
-    const parent = open[Math.min(level, open.length - 1)];
-    const moves = all.slice(0, 1);
-    /** @type {Row} */
-    const row = { moves, path: parent.path, below: [], ...(word && { word }) };
-    const place = open.indexOf(parent);
-    parent.below.push(row);
-    open.splice(place + 1, open.length, { ...row, path: [...parent.path, ...moves], below: row.below });
-  }
-  return root.below;
+export function rowsOf({ solutions }, isHelp, { from = 0, made = () => {} } = {}) {
+  const given = { solutions, made, rowsIn: isHelp ? sharedRows : nestedRows };
+  return madeRows(given, { from, to: solutions.length }, null);
 }
 
 /**
- * Counts the moves that all these lines share, from a place on.
- * @param {Move[][]} lines
+ * Makes the rows of some lines, below a row.
+ * @param {RowsGiven} given
+ * @param {Span} span the lines
+ * @param {Row | null} above
+ */
+function madeRows(given, span, above) {
+  const level = above ? above.level + 1 : 0;
+  const rows = given.rowsIn(given, span, { level, path: above ? [...above.path, ...above.moves] : [] });
+  given.made(rows, above);
+  return rows;
+}
+
+/**
+ * Makes a row; the rows below it are those of some of its lines.
+ * @param {RowsGiven} given
+ * @param {{ moves: Move[], path: Move[], level: number, from: number, to: number, word?: string }} said
+ * @param {Span} lines
+ * @returns {Row}
+ */
+function rowWith(given, said, lines) {
+  /** @type {Row[] | null} */
+  let below = null;
+  return { ...said, hasBelow: lines.from < lines.to, get below() { return below ??= madeRows(given, lines, this); } };
+}
+
+/**
+ * Makes the rows of lines of battle play: of those of one level, each with the lines that continue it.
+ * @param {RowsGiven} given
+ * @param {Span} span
+ * @param {{ level: number, path: Move[] }} above
+ */
+function nestedRows(given, { from, to }, { level, path }) {
+  const { solutions } = given;
+  const rows = [];
+  for (let at = from; at < to;) {
+    const first = at;
+    // (a line continues no deeper one than the line before it)
+    for (let last = level; ++at < to && (last = Math.min(solutions[at].level, last + 1)) > level;);
+    const { moves, word } = solutions[first];
+    rows.push(rowWith(given, { moves: moves.slice(0, 1), path, level, from: first, to: at, ...(word && { word }) }, { from: first + 1, to: at }));
+  }
+  return rows;
+}
+
+/**
+ * Counts the moves that some lines share, from a place on.
+ * @param {Solution[]} solutions
+ * @param {Span} lines
  * @param {number} start
  */
-function commonLength(lines, start) {
-  let end = start;
-  while (end < lines[0].length && lines.every(line => line[end]?.said === lines[0][end].said)) end++;
+function commonLength(solutions, { from, to }, start) {
+  const { moves } = solutions[from];
+  let end = moves.length;
+  for (let at = from + 1; at < to && end > start; at++) {
+    const other = solutions[at].moves;
+    let same = start;
+    while (same < end && other[same]?.said === moves[same].said) same++;
+    end = same;
+  }
   return end;
 }
 
-/** @param {Move[][]} lines @param {Move[]} path @returns {Row[]} */
-function sharedRows(lines, path) {
-  /** @type {Row[]} */
-  const rows = [];
+/**
+ * Makes the rows of lines of help play: of those that go on with one move, with the moves that they share.
+ * @param {RowsGiven} given
+ * @param {Span} span
+ * @param {{ level: number, path: Move[] }} above
+ */
+function sharedRows(given, { from, to }, { level, path }) {
+  const { solutions } = given;
   const start = path.length;
-  for (let first = 0; first < lines.length;) {
+  const rows = [];
+  for (let first = from; first < to;) {
     let next = first + 1;
-    while (next < lines.length && lines[next][start]?.said === lines[first][start].said) next++;
-    const group = lines.slice(first, next);
-    const end = group.length === 1 ? group[0].length : commonLength(group, start);
-    const moves = group[0].slice(start, end);
-    const isParted = group.length > 1 && group.every(line => line.length > end);
-    rows.push({ moves, path, below: isParted ? sharedRows(group, [...path, ...moves]) : [] });
+    while (next < to && solutions[next].moves[start]?.said === solutions[first].moves[start].said) next++;
+    const lines = { from: first, to: next };
+    const end = commonLength(solutions, lines, start);
+    let isParted = next > first + 1;
+    for (let at = first; at < next && isParted; at++) isParted = solutions[at].moves.length > end;
+    rows.push(rowWith(given, { moves: solutions[first].moves.slice(start, end), path, level, ...lines }, isParted ? lines : { from: next, to: next }));
     first = next;
   }
   return rows;

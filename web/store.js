@@ -6,6 +6,8 @@ export const MOST_KEPT = 20;
 export const MOST_KEPT_LETTERS = 100000;
 const MOST_LINKED_LETTERS = 30000;
 const MOST_STEPS = 200;
+// The most letters of the texts for undo, but that the last step stays: a browser keeps one or two bytes for each.
+const MOST_UNDO_LETTERS = 1 << 25;
 // The most letters of a visit's texts for undo, and of its report.
 const MOST_STEP_LETTERS = 500000;
 const MOST_REPORT_LETTERS = 1000000;
@@ -141,7 +143,9 @@ export class Steps {
   add(text) {
     if (text === this.texts[this.place]) return;
     this.texts.splice(this.place + 1, this.texts.length, text);
-    if (this.texts.length > MOST_STEPS) this.texts.shift();
+    let room = MOST_UNDO_LETTERS;
+    const kept = this.texts.findLastIndex((it, at) => (room -= it.length) < 0 && at < this.texts.length - 2);
+    this.texts.splice(0, Math.max(kept + 1, this.texts.length - MOST_STEPS));
     this.place = this.texts.length - 1;
   }
 

@@ -9,6 +9,8 @@ import { atOnce, LONG_TEXT } from './slices.js';
 const MAN_WORD = new RegExp(`^[${KINDS}]([a-h][1-8])+$`, 'i');
 const TEXT_FIELDS = ['title', 'author', 'origin'];
 const TEXT_LINES = ['title', 'author', 'origin', 'remark'];
+// Those that belong to one problem alone.
+const CLEARED_LINES = ['title', 'origin', 'remark'];
 const COMMANDS = ['beginproblem', 'pieces', 'stipulation', 'condition', 'option', 'nextproblem', 'endproblem',
   ...TEXT_LINES];
 // A man of each square.
@@ -17,6 +19,11 @@ export const FLAGS = ['SetPlay', 'Variation', 'NoBoard'];
 export const VALUES = ['MaxSolutions', 'EnPassant', 'NoCastling'];
 export const CONDITIONS = ['Circe', 'Madrasi'];
 export const NEW_PROBLEM = 'BeginProblem\nStipulation #2\nEndProblem\n';
+/**
+ * Adds a new problem to a text without problems.
+ * @param {string} text
+ */
+export const withNewProblem = text => `${text}${!text || text.endsWith('\n') ? '' : '\n'}${NEW_PROBLEM}`;
 /** @param {string} word @param {string} full */
 export const isShort = (word, full) => word.length >= 3 && full.toLowerCase().startsWith(word.toLowerCase());
 /** @param {string} word */
@@ -294,18 +301,26 @@ function withBlanks(text, { from, to }) {
  * @param {Block} block
  * @param {string} line
  */
-export function withLine(text, block, line) {
-  const at = block.end;
-  const start = at === 0 || text[at - 1] === '\n' ? '' : '\n';
-  return text.slice(0, at) + start + line + '\n' + text.slice(at);
+export const withLine = (text, block, line) => replaced(text, [linePut(text, block, line)]);
+
+/**
+ * Returns what adds a line at the end of a problem.
+ * @param {string} text
+ * @param {Block} block
+ * @param {string} line
+ * @returns {Replacement}
+ */
+function linePut(text, { end }, line) {
+  const start = end === 0 || text[end - 1] === '\n' ? '' : '\n';
+  return { from: end, to: end, said: `${start}${line}\n` };
 }
 
 /**
- * Removes some parts of a text; parts with only blanks between them are removed as one.
+ * Joins parts of a text with only blanks between them.
  * @param {string} text
  * @param {Span[]} parts
  */
-function without(text, parts) {
+function joinedParts(text, parts) {
   /** @type {Span[]} */
   const joined = [];
   for (const part of [...parts].sort((one, next) => one.from - next.from)) {
@@ -313,18 +328,39 @@ function without(text, parts) {
     if (last && !text.slice(last.to, part.from).trim()) last.to = part.to;
     else joined.push({ from: part.from, to: part.to });
   }
-  return replaced(text, joined.map(part => withBlanks(text, part)));
+  return joined;
 }
 
 /**
- * Removes a problem's text lines that begin with these commands.
+ * Does some edits of a text at once, so that it isn't read again between them.
  * @param {string} text
- * @param {number} place
- * @param {string[]} commands
+ * @param {Edit[]} edits
  */
-export function withoutLines(text, place, commands) {
-  const lines = problemAt(text, place).words.filter(word => word.command && commands.includes(word.command));
-  return without(text, lines.map(({ from, to, end = to }) => ({ from, to: end })));
+function edited(text, edits) {
+  const gone = joinedParts(text, edits.flatMap(it => it.gone)).map(part => withBlanks(text, part));
+  return replaced(text, [...edits.flatMap(it => it.put), ...gone]);
+}
+
+/**
+ * Removes some parts of a text; parts with only blanks between them are removed as one.
+ * @param {string} text
+ * @param {Span[]} parts
+ */
+const without = (text, parts) => edited(text, [{ gone: parts, put: [] }]);
+
+/**
+ * Returns the edit that replaces the men of a problem.
+ * @param {Block} block
+ * @param {Men} men
+ * @returns {Edit}
+ */
+function menEdit(block, men) {
+  const { parts } = menOf(block);
+  const sides = sidesOf(men);
+  const said = `Pieces${sides}`;
+  if (!sides) return { gone: parts, put: [] };
+  if (!parts.length) return { gone: [], put: [{ from: block.start, to: block.start, said: `\n${said}` }] };
+  return { gone: parts.slice(1), put: [{ ...parts[0], said }] };
 }
 
 /**
@@ -333,15 +369,18 @@ export function withoutLines(text, place, commands) {
  * @param {number} place
  * @param {Men} men
  */
-export function withMen(text, place, men) {
+export const withMen = (text, place, men) => edited(text, [menEdit(problemAt(text, place), men)]);
+
+/**
+ * Removes the men of a problem, and what belongs to the problem that was: title, source, remarks, and the squares of options.
+ * @param {string} text
+ * @param {number} place
+ */
+export function cleared(text, place) {
   const block = problemAt(text, place);
-  const { parts } = menOf(block);
-  const sides = sidesOf(men);
-  const said = `Pieces${sides}`;
-  if (!sides) return without(text, parts);
-  if (!parts.length) return `${text.slice(0, block.start)}\n${said}${text.slice(block.start)}`;
-  const others = without(text, parts.slice(1));
-  return replaced(others, [{ ...parts[0], said }]);
+  const lines = block.words.filter(word => word.command && CLEARED_LINES.includes(word.command));
+  const gone = lines.map(({ from, to, end = to }) => ({ from, to: end }));
+  return edited(text, [menEdit(block, new Map()), { gone, put: [] }, optionsEdit(text, block, { EnPassant: null, NoCastling: null })]);
 }
 
 /**
@@ -474,41 +513,74 @@ function withValue(text, block, name, value) {
 const commandAlone = ({ section, parts }) => (section?.words === parts.length ? [section] : []);
 
 /**
- * Sets an option and its value; removes it if the value is null.
+ * Returns the edit that sets options and their values; it removes those whose value is null.
  * @param {string} text
  * @param {Block} block
- * @param {string} name
- * @param {string | null} value
+ * @param {Record<string, string | null>} values
+ * @returns {Edit}
  */
-function withOption(text, block, name, value) {
-  const found = fieldsOf(text, block)[name];
-  if (!found) return value === null ? text : withNewOption(text, block, `${name} ${oneLine(value)}`.trim());
-  /** @type {Span[]} */
-  const gone = [];
-  for (let field = /** @type {Field | undefined} */ (value === null ? found : found.earlier); field; field = field.earlier) {
-    for (const part of [field.parts, commandAlone(field)].flat()) gone.push(part);
-  }
-  if (value === null) return without(text, gone);
-  const [own, first, ...more] = found.parts;
-  const said = oneLine(value);
-  const option = first ? { ...first, said } : { from: own.to, to: own.to, said: said && ` ${said}` };
-  const rest = without(text, [...gone.filter(part => part.from > own.to), ...more]);
-  return without(replaced(rest, [option]), gone.filter(part => part.from < own.from));
+function optionsEdit(text, block, values) {
+  const fields = fieldsOf(text, block);
+  const set = Object.entries(values).filter(([name, value]) => value !== null && fields[name]);
+  const put = set.map(([name, value]) => valuePut(fields[name].parts, oneLine(value ?? '')));
+  const gone = Object.entries(values).flatMap(([name, value]) => goneParts(fields[name], value !== null));
+  const added = Object.entries(values).flatMap(([name, value]) => (value === null || fields[name] ? [] : [`${name} ${oneLine(value)}`.trim()]));
+  const words = new Set(gone.map(({ part }) => part.from));
+  const place = added.length ? placeOfOptions(text, block, words) : null;
+  if (place) put.push({ from: place.to, to: place.to, said: ` ${added.join(' ')}` });
+  else if (added.length) put.push(linePut(text, block, `Option ${added.join(' ')}`));
+  return { put, gone: [...gone.map(it => it.part), ...emptied(gone.map(it => it.section), place?.section ?? null)] };
 }
 
 /**
- * Adds an option, after the problem's other options unless their line ends in a value.
+ * Returns what sets the value of an option, the last one of its name: its first word after the name, or a new one.
+ * @param {Span[]} parts
+ * @param {string} said
+ * @returns {Replacement}
+ */
+function valuePut([own, first], said) {
+  return first ? { ...first, said } : { from: own.to, to: own.to, said: said && ` ${said}` };
+}
+
+/**
+ * Lists the words of an option that go, with their commands: those of the same option before it; the other words of its value, if another one
+ * is set, or else all its words.
+ * @param {Field | undefined} found
+ * @param {boolean} isSet
+ */
+function goneParts(found, isSet) {
+  const gone = [];
+  for (let field = found; field; field = field.earlier) {
+    for (const part of isSet && field === found ? field.parts.slice(2) : field.parts) gone.push({ part, section: field.section });
+  }
+  return gone;
+}
+
+/**
+ * Lists the commands all of whose words go, but for one.
+ * @param {(Section | null)[]} sections the command of each word that goes
+ * @param {Token | null} kept
+ */
+function emptied(sections, kept) {
+  /** @type {Map<Section, number>} */
+  const counts = new Map();
+  for (const section of sections) if (section) counts.set(section, (counts.get(section) ?? 0) + 1);
+  return [...counts].filter(([section, count]) => section.words === count && section.from !== kept?.from).map(([section]) => section);
+}
+
+/**
+ * Returns where a problem's options go on, with their command; null if their line ends in a value, another command follows them or there are
+ * none.
  * @param {string} text
  * @param {Block} block
- * @param {string} said
+ * @param {Set<number>} gone where words are that go
  */
-function withNewOption(text, block, said) {
-  const section = block.words.findLast(word => word.command === 'option');
-  const following = section ? block.words.slice(block.words.indexOf(section) + 1) : [];
+function placeOfOptions(text, block, gone) {
+  const at = block.words.findLastIndex(word => word.command === 'option');
+  const [section, ...following] = at < 0 ? [] : block.words.slice(at);
   const last = following.at(-1);
-  const isFull = !section || !last || following.some(word => word.command) || text.slice(section.to, last.to).includes('\n');
-  const at = isFull ? 0 : last.to;
-  return isFull ? withLine(text, block, `Option ${said}`) : replaced(text, [{ from: at, to: at, said: ` ${said}` }]);
+  if (!section || !last || following.some(word => word.command) || text.slice(section.to, last.to).includes('\n')) return null;
+  return { section, to: following.findLast(word => !gone.has(word.from))?.to ?? section.to };
 }
 
 /**
@@ -521,7 +593,7 @@ function withNewOption(text, block, said) {
 export function withField(text, place, name, value) {
   const block = problemAt(text, place);
   const isOption = FLAGS.includes(name) || VALUES.includes(name);
-  return isOption ? withOption(text, block, name, value) : withValue(text, block, name, value ?? '');
+  return isOption ? edited(text, [optionsEdit(text, block, { [name]: value })]) : withValue(text, block, name, value ?? '');
 }
 
 /**
@@ -531,8 +603,9 @@ export function withField(text, place, name, value) {
  * @param {Fen} fen
  */
 export function withFen(text, place, fen) {
-  const placed = withField(withMen(text, place, fen.men), place, 'EnPassant', fen.crossed);
-  return withField(placed, place, 'NoCastling', fen.noCastling.join('') || null);
+  const block = problemAt(text, place);
+  const squares = { EnPassant: fen.crossed, NoCastling: fen.noCastling.join('') || null };
+  return edited(text, [menEdit(block, fen.men), optionsEdit(text, block, squares)]);
 }
 
 /**

@@ -1,7 +1,7 @@
 // @ts-check
 // The solutions as rows that fold, and the walk through their moves. Rows are drawn when they are unfolded, a number at
 // a time. While a report grows, only its last rows change.
-import { comparisonOf } from './compared.js';
+import { comparisonOf, isComparable } from './compared.js';
 import { element, madeWith, makeButton } from './elements.js';
 import { sayAsked, sayTotal } from './names.js';
 import { foundIn, labelOf, rowsOf, triesIn } from './report.js';
@@ -35,13 +35,6 @@ const movesTo = ({ row, index }) => [...row.path, ...row.moves.slice(0, index + 
 /** @param {RowPlace} place */
 const stepsTo = ({ row, index }) => [...stepsAbove(row), ...stepsOf(row).slice(0, index + 1)];
 /**
- * Writes the text of a row and of the rows below it.
- * @param {TreeRow} row
- * @returns {string}
- */
-const saidIn = row => `${pathOf(row)}\n${row.below.map(saidIn).join('')}`;
-
-/**
  * Returns the rows of a list that are drawn.
  * @param {TreeRow[]} rows
  * @param {ListBox} [list]
@@ -53,6 +46,7 @@ const drawnOf = (rows, list) => rows.slice(0, list?.filling.drawn ?? 0);
  * @param {TreeRow} row
  */
 function briefOf(row) {
+  if (row.group.kind !== 'tries') return '';
   const refutations = row.below.find(it => it.word === 'but')?.below ?? [];
   return refutations.length ? say('butBrief', { moves: refutations.map(it => (it.word ? say(`below-${it.word}`) : labelOf(it.moves[0]))).join(' ') }) : '';
 }
@@ -65,7 +59,7 @@ function briefOf(row) {
 function keepOpen(row, paths) {
   const own = pathOf(row);
   row.wasOpen = paths.some(path => path === own || path.startsWith(`${own} `));
-  for (const below of row.below) keepOpen(below, paths);
+  if (row.wasOpen) for (const below of row.below) keepOpen(below, paths);
 }
 
 /**
@@ -263,7 +257,7 @@ export class Tree {
    * @param {Item} item
    */
   growComparison(box, item) {
-    if (item.asked?.isHelp || !comparisonOf(this.phasesOf(box))) return;
+    if (item.asked?.isHelp || !isComparable(this.phasesOf(box))) return;
     box.append(box.compared);
     if (box.compared.open) this.fillComparison(box);
   }
@@ -292,7 +286,7 @@ export class Tree {
   /** @param {TreeRow | null} head what a first move threatens, or a word */
   headCell(head) {
     if (!head) return madeWith('td', '');
-    if (!head.below.length) return madeWith('td', say(`below-${head.word}`));
+    if (!head.hasBelow) return madeWith('td', say(`below-${head.word}`));
     return this.comparedCell('td', head.below, head.below.map(it => labelOf(it.moves[0])));
   }
 
@@ -335,13 +329,12 @@ export class Tree {
     head.textContent = say(phase.kind);
     const list = madeList('ul');
     list.className = 'top';
-    const rows = /** @type {TreeRow[]} */ (rowsOf(phase, item.asked.isHelp));
-    const group = { kind: phase.kind, item, men: this.start(item), rows, list, lines: phase.lines.length, total: this.line(sayTotal(phase)) };
+    /** @type {Group} */
+    const group = { kind: phase.kind, item, men: this.start(item), rows: [], list, lines: 0, total: this.line('') };
     this.groups.push(group);
     box.groups.push(group);
-    this.prepare(rows, null, group);
-    for (const row of rows) keepOpen(row, this.opened);
-    this.fill(list, rows, row => this.drawnRow(row));
+    this.fill(list, group.rows, row => this.drawnRow(row));
+    this.growPhase(group, phase, item);
     return [head, list, group.total];
   }
 
@@ -356,13 +349,14 @@ export class Tree {
     group.total.textContent = sayTotal(phase);
     if (phase.lines.length === group.lines) return;
     group.lines = phase.lines.length;
-    const rows = /** @type {TreeRow[]} */ (rowsOf(phase, item.asked.isHelp));
     const last = group.rows.length - 1;
-    this.prepare(rows, null, group);
-    if (last >= 0 && saidIn(rows[last]) !== saidIn(group.rows[last])) this.replaceRow(group, last, rows[last]);
-    for (const row of rows.slice(last + 1)) keepOpen(row, this.opened);
-    for (const row of rows.slice(last + 1)) group.rows.push(row);
-    group.rows.forEach(row => { row.siblings = group.rows; });
+    const from = last < 0 ? 0 : group.rows[last].from;
+    const rows = /** @type {TreeRow[]} */ (rowsOf(phase, item.asked.isHelp, { from, made: (made, above) => this.prepare(made, above, group) }));
+    if (last >= 0 && rows[0].to !== group.rows[last].to) this.replaceRow(group, last, rows[0]);
+    for (const row of last < 0 ? rows : rows.slice(1)) {
+      row.index = group.rows.push(row) - 1;
+      keepOpen(row, this.opened);
+    }
     this.refill(group.list);
   }
 
@@ -379,6 +373,7 @@ export class Tree {
     const steps = isWalked ? stepsTo(current) : [];
     const hasFocus = old.line?.contains(document.activeElement);
     group.rows[index] = row;
+    row.index = index;
     keepOpen(row, openPaths(old));
     if (old.line) old.line.replaceWith(this.drawnRow(row));
     if (!isWalked) return;
@@ -389,21 +384,23 @@ export class Tree {
     if (hasFocus) button.focus({ preventScroll: true });
   }
 
-  /** @param {TreeRow[]} rows @param {TreeRow | null} parent @param {Group} group */
+  /**
+   * Gives rows their places in the tree, those of a phase among all of it.
+   * @param {Row[]} rows
+   * @param {Row | null} parent
+   * @param {Group} group
+   */
   prepare(rows, parent, group) {
-    rows.forEach((row, index) => {
-      Object.assign(row, { parent, group, index, siblings: rows });
-      this.prepare(row.below, row, group);
-    });
+    for (const [index, row] of rows.entries()) Object.assign(row, { parent, group, index, siblings: parent ? rows : group.rows });
   }
 
   /** @param {TreeRow} row */
   drawnRow(row) {
     const line = document.createElement('li');
     const turn = makeButton(say('openRow'), () => this.fold(row, !row.list || row.list.hidden));
-    turn.className = row.below.length ? 'turn' : 'turn none';
+    turn.className = row.hasBelow ? 'turn' : 'turn none';
     turn.textContent = '▸';
-    turn.tabIndex = row.below.length ? 0 : -1;
+    turn.tabIndex = row.hasBelow ? 0 : -1;
     turn.setAttribute('aria-expanded', 'false');
     row.turn = turn;
     row.line = line;
@@ -411,7 +408,7 @@ export class Tree {
     line.append(turn, ...row.buttons);
     const brief = briefOf(row);
     if (brief) line.append(row.brief = Object.assign(madeWith('span', brief), { className: 'brief' }));
-    if (row.below.length && row.wasOpen) this.fold(row, true);
+    if (row.hasBelow && row.wasOpen) this.fold(row, true);
     return line;
   }
 
@@ -437,7 +434,7 @@ export class Tree {
    * @param {boolean} isOpen
    */
   fold(row, isOpen) {
-    if (!row.below.length) return;
+    if (!row.hasBelow) return;
     if (isOpen && !row.list) {
       row.list = madeList('ul');
       row.line?.append(row.list);
@@ -461,7 +458,7 @@ export class Tree {
     for (let at = 0; at < waiting.length && unfolded < MOST_UNFOLDED; at++) {
       const row = waiting[at];
       this.fold(row, isOpen);
-      const below = drawnOf(row.below, row.list);
+      const below = row.list ? drawnOf(row.below, row.list) : [];
       if (isOpen) unfolded += below.length;
       for (const it of below) waiting.push(it);
     }
@@ -532,7 +529,7 @@ export class Tree {
     }
     const { row, index } = this.current;
     if (index + 1 < row.moves.length) this.go(row, index + 1);
-    else if (row.below.length) this.go(row.below[0], 0);
+    else if (row.hasBelow) this.go(row.below[0], 0);
   }
 
   backward() {

@@ -12,6 +12,8 @@ type Men = Map<Square, Man>;
 interface Span { from: number; to: number }
 /** A part of a text, and what replaces it. */
 interface Replacement extends Span { said: string }
+/** An edit of a text: parts that are removed, with the blanks before them, and parts that are replaced. */
+interface Edit { gone: Span[]; put: Replacement[] }
 
 /** A position in FEN: the squares that NoCastling would name, and the square that a pawn has just crossed. */
 interface Fen { men: Men; turn: Colour; noCastling: Square[]; crossed: Square | null }
@@ -62,8 +64,15 @@ interface Item {
 interface SoundItem extends Item { asked: Asked }
 /** A faulty problem of a report. */
 interface FaultyItem extends Item { fault: ReportFault }
-/** Moves of a tree or a word, the moves before them, and the rows after them. */
-interface Row { moves: Move[]; path: Move[]; below: Row[]; word?: string }
+/** Moves of a tree or a word, the moves before them, and the rows after them, which are made when they are asked for; the lines that it is
+    made of, and the number of rows above it. */
+interface Row extends Span { moves: Move[]; path: Move[]; level: number; word?: string; hasBelow: boolean; readonly below: Row[] }
+/** What rows are made of: the lines of a phase, what receives each list of rows, what makes the rows of some lines. */
+interface RowsGiven {
+  solutions: Solution[];
+  made: (rows: Row[], above: Row | null) => void;
+  rowsIn: (given: RowsGiven, span: Span, above: { level: number, path: Move[] }) => Row[];
+}
 
 // Names, twins, and what the text says of a problem.
 
@@ -154,7 +163,7 @@ interface YamlLine { indent: number; text: string; raw: string }
 interface ButtonParent extends HTMLElement { children: HTMLCollectionOf<HTMLElement>; firstElementChild: HTMLElement }
 /** The elements of the page with their own types. */
 interface PageElements {
-  text: HTMLTextAreaElement; fen: HTMLInputElement; check: HTMLInputElement; tries: HTMLInputElement; refutations: HTMLInputElement; file: HTMLInputElement; problems: HTMLSelectElement; language: HTMLSelectElement;
+  text: HTMLTextAreaElement; fen: HTMLInputElement; check: HTMLInputElement; tries: HTMLInputElement; refutations: HTMLInputElement; file: HTMLInputElement; problems: HTMLSelectElement; problemNumber: HTMLInputElement; language: HTMLSelectElement;
   solve: HTMLButtonElement; solveThis: HTMLButtonElement; stop: HTMLButtonElement; live: HTMLInputElement; undo: HTMLButtonElement; redo: HTMLButtonElement; men: ButtonParent; squares: ButtonParent;
   gutter: ButtonParent; promotion: ButtonParent; twins: ButtonParent;
 }
@@ -185,7 +194,7 @@ interface ComparedCell<T> { rows: T[]; said: string[]; isChanged: boolean }
 interface Comparison<T> { columns: ComparedColumn<T>[]; rows: { label: string; cells: ComparedCell<T>[] }[]; left: number }
 /** A row with its place in the tree, and its elements once they are drawn. */
 interface TreeRow extends Row {
-  below: TreeRow[]; parent: TreeRow | null; group: Group; index: number; siblings: TreeRow[]; wasOpen?: boolean;
+  readonly below: TreeRow[]; parent: TreeRow | null; group: Group; index: number; siblings: TreeRow[]; wasOpen?: boolean;
   line?: HTMLElement; list?: ListBox; turn: HTMLElement; buttons: HTMLElement[]; brief?: HTMLElement;
 }
 /** A move of a row. */
@@ -199,5 +208,6 @@ type Crew = import('./crew.js').Crew;
 
 interface Array<T> {
   findLast(holds: (value: T, index: number, all: T[]) => boolean): T | undefined;
+  findLastIndex(holds: (value: T, index: number, all: T[]) => boolean): number;
 }
 

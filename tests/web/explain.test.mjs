@@ -12,8 +12,8 @@ const { DATA, sentence } = companions;
 const { py } = await import('../../web/python.js');
 const { imported } = await import('../../web/importing.js');
 const { documents } = await import('../../web/yaml.js');
-const { contentsOf, twinsOf } = await import('../../web/contents.js');
-const { lineAt, lineOf, problemsOf } = await import('../../web/text.js');
+const { contentAt, listedNumbers, twinsOf } = await import('../../web/contents.js');
+const { blocksOf, lineAt, lineOf, problemsOf } = await import('../../web/text.js');
 const { knownMen, knownSide } = await import('../../web/items.js');
 const { givenOf } = await import('../../web/outputs.js');
 
@@ -193,7 +193,7 @@ test('twins: groups, remarks and changes', () => {
   const problem = (title, men, asked, remark) => [`Title ${title}`, ...(remark ? [`Remark ${remark}`] : []), `Pieces White ${men}`, `Stipulation ${asked}`].join('\n');
   const twins = (...problems) => {
     const text = `BeginProblem\n${problems.join('\nNextProblem\n')}\nEndProblem\n`;
-    return contentsOf(text).map((_, at) => twinsOf(text, contentsOf(text), at + 1).map(it => it.change));
+    return problems.map((_, at) => twinsOf(text, at + 1).map(it => it.change));
   };
   assert.deepEqual(twins(problem('A a)', 'Ra1', '#2'), problem('A b)', 'Rb2', '#1'), problem('B', 'Ra1', '#2')),
     [['', 'white Ra1 to b2, #1'], ['', 'white Ra1 to b2, #1'], []]);
@@ -203,17 +203,30 @@ test('twins: groups, remarks and changes', () => {
 
 test('contents: names and twins of a text', () => {
   const text = 'BeginProblem\nTitle A a)\nStipulation #1\nNextProblem\nTitle A b)\nStipulation #2\nEndProblem\n';
-  const contents = contentsOf(text);
-  assert.deepEqual(contents.map(it => [it.number, it.title, it.asked]), [[1, 'A a)', '#1'], [2, 'A b)', '#2']]);
-  assert.deepEqual(twinsOf(text, contents, 2).map(it => [it.label.text, it.change]), [['a)', ''], ['b)', '#2']]);
+  assert.deepEqual([1, 2].map(it => contentAt(text, it)).map(it => [it.number, it.title, it.asked]), [[1, 'A a)', '#1'], [2, 'A b)', '#2']]);
+  assert.deepEqual(twinsOf(text, 2).map(it => [it.label.text, it.change]), [['a)', ''], ['b)', '#2']]);
 });
 
 test('twins: of many problems with labels only those of its own group are looked at', () => {
   const one = label => `Title T ${label})\nPieces White Kg6 Ra1 Black Kg8\nStipulation #1\n`;
   const text = `BeginProblem\n${[...'abcabcabc'].map(one).join('NextProblem\n')}EndProblem\n`;
-  const contents = contentsOf(text);
-  for (const at of [0, 1, 7, 8]) Object.defineProperty(contents, at, { get() { throw new Error('looked at'); } });
-  for (const number of [4, 5, 6]) assert.deepEqual(twinsOf(text, contents, number).map(it => it.number), [4, 5, 6]);
+  for (const at of [0, 1, 7, 8]) Object.defineProperty(blocksOf(text)[at], 'words', { get() { throw new Error('looked at'); } });
+  for (const number of [4, 5, 6]) assert.deepEqual(twinsOf(text, number).map(it => it.number), [4, 5, 6]);
+});
+
+test('contents: of many problems the list shows those around the one on the board, and others at equal distances', () => {
+  assert.deepEqual(listedNumbers(3, 2), [1, 2, 3]);
+  assert.deepEqual([0, 1, 999].map(at => listedNumbers(1000, 1)[at]), [1, 2, 1000]);
+  for (const [all, own] of [[1001, 1], [5000, 4999], [104000, 52034], [1000000, 1000000]]) {
+    const numbers = listedNumbers(all, own);
+    assert.ok(numbers.length <= 1000, `${numbers.length} of ${all}`);
+    assert.deepEqual([numbers[0], numbers.at(-1)], [1, all]);
+    assert.ok(numbers.every((it, at) => !at || it > numbers[at - 1]));
+    for (let it = Math.max(1, own - 150); it <= Math.min(all, own + 150); it++) assert.ok(numbers.includes(it), `${it} of ${all} around ${own}`);
+    const gaps = numbers.slice(1).map((it, at) => it - numbers[at]);
+    assert.ok(Math.max(...gaps) <= all / 50, `a gap of ${Math.max(...gaps)} of ${all}`);
+  }
+  assert.deepEqual(listedNumbers(104000, 52034), listedNumbers(104000, 52049));
 });
 
 test('importing: long lines of blanks, comments and line ends, and long chains of twins, take little time', () => {

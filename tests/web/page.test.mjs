@@ -169,7 +169,35 @@ test('editing: board, FEN, undo and redo', () => {
 test('editing: a text without problems gets one', () => {
   setText('');
   takeFen('8/8/8/8/8/8/8/K7 w');
-  assert.equal(textNow(), 'BeginProblem\nPieces White Ka1\nStipulation #2\nEndProblem\n');
+  const made = 'BeginProblem\nPieces White Ka1\nStipulation #2\nEndProblem\n';
+  assert.equal(textNow(), made);
+  for (const [act, wanted] of [[() => takeFen('8/8/8/8/8/8/8/K7 w'), made], [() => element('next').onclick(), made.replace('Pieces White Ka1\n', '')]]) {
+    setText('a word');
+    act();
+    assert.equal(textNow(), `a word\n${wanted}`);
+  }
+});
+
+test('a text without a problem or with a word before it: the board\'s buttons make one, YAML says that there is none, and nothing goes on from the diagram', () => {
+  for (const name of ['mirror', 'upright', 'turn', 'exchange', 'clear']) {
+    setText('a b c');
+    changeBoard(name);
+    assert.equal(textNow(), 'a b c\nBeginProblem\nStipulation #2\nEndProblem\n');
+  }
+  for (const text of ['a b c', '', 'x'.repeat(6000)]) {
+    setText(text);
+    helpersOf(() => OUTS.outYaml());
+    assert.deepEqual([Helper.all.length, noteNow()], [0, say('none')]);
+  }
+  setText(`x ${TEXT}`);
+  OUTS.outYaml();
+  assert.match(noteNow(), /^Problem 1 was left out: there is no BeginProblem/);
+  for (const text of ['a b c', 'BeginProblem\n', TEXT]) {
+    setText(text);
+    solveFromHere();
+    makeProblem();
+    assert.equal(textNow(), text);
+  }
 });
 
 test('fields: a value goes into the text', () => {
@@ -379,6 +407,30 @@ test('reporting: a long report is shown a number of lines at a time, and saved w
   assert.deepEqual([element('report').textContent, element('moreReport').hidden], [REPORT, true]);
 });
 
+test('tree: of a report that grows only the lines from the last first move on become rows, and the tree is the one that is drawn at once', () => {
+  const shown = () => {
+    views.tree.foldAll(true);
+    return element('tree').textContent;
+  };
+  begin(TEXT, MANY);
+  const wanted = shown();
+  views.tree.foldAll(false);
+  for (const [lines, first] of [[100, 63], [63 * 5, 63 * 4], [63 * 62 + 1, 63 * 62], [MANY_LINES.length - 1, 63 * 62]]) {
+    const grown = `problem 1\nh#1\nplay\n${MANY_LINES.slice(0, lines).join('')}`;
+    begin(TEXT, grown);
+    const { solutions } = state.items[0].phases[0];
+    assert.equal(solutions.length, lines);
+    const own = [...solutions];
+    for (let at = 0; at < first; at++) Object.defineProperty(solutions, at, { get() { throw new Error('looked at'); } });
+    reportGrew(MANY.slice(grown.length));
+    drawGrowth();
+    for (let at = 0; at < first; at++) Object.defineProperty(solutions, at, { value: own[at] });
+    assert.equal(shown(), wanted);
+    assert.deepEqual(views.tree.groups[0].rows.map(it => it.index), SQUARES.map((_, at) => at));
+    assert.equal(views.tree.groups[0].rows.every(it => it.siblings === views.tree.groups[0].rows), true);
+  }
+});
+
 test('tree: of many rows a number is unfolded, and all are folded', () => {
   begin(TEXT, MANY);
   views.tree.foldAll(true);
@@ -570,11 +622,8 @@ test('visit: texts for undo, the problem and its report survive a reload', () =>
 
 const withRemark = letters => TEXT.replace('Pieces', `Remark ${'x'.repeat(letters)}\nPieces`);
 const unkeptNow = () => (element('unkept').hidden ? '' : element('unkept').textContent);
-/** Stores a long text at once, which the page does in slices on a slow machine. */
-function keepLong() {
-  keepText();
-  sayUnkept();
-}
+/** Stores a long text at once, which the page does a moment later. */
+const keepLong = () => storeVisit();
 
 /** Returns whether the page asks before it is left. */
 function asksToStay() {
@@ -630,6 +679,44 @@ test('visit: a long text is stored at each change, and the next visit in another
   begin(TEXT);
 });
 
+test('visit: a long text is stored a moment after changes, once for all of them, and at once before the page goes', () => withSlowClock(pass => {
+  begin(TEXT);
+  storeVisit();
+  const visits = [];
+  const { setItem } = localStorage;
+  localStorage.setItem = (name, value) => {
+    if (name === 'pops.visit') visits.push(JSON.parse(value).steps.texts.at(-1));
+    setItem(name, value);
+  };
+  const longs = [200001, 200002, 200003, 200004, 200005].map(withRemark);
+  for (const long of longs.slice(0, 3)) {
+    setText(long);
+    keepText();
+    sayUnkept();
+  }
+  assert.deepEqual([visits.length, unkeptNow()], [0, '']);
+  pass();
+  assert.equal(visits.length === 1 && visits[0] === longs[2], true);
+  for (let passes = 0; passes < 9; passes++) pass();
+  visits.length = 0;
+  setText(longs[3]);
+  sayUnkept();
+  send('pagehide', {});
+  assert.equal(visits.length === 1 && visits[0] === longs[3], true);
+  withRoom(1000, () => {
+    setText(longs[4]);
+    sayUnkept();
+    for (let passes = 0; passes < 30 && !unkeptNow(); passes++) pass();
+    assert.equal(unkeptNow(), say('unkept'));
+  });
+  localStorage.setItem = setItem;
+  setText(TEXT);
+  keepText();
+  sayUnkept();
+  assert.equal(unkeptNow(), '');
+  for (let passes = 0; passes < 9; passes++) pass();
+}));
+
 test('visit: a short text that there is no room for isn\'t taken for the one before', () => {
   begin(TWO_MOVES);
   storeVisit();
@@ -666,6 +753,32 @@ test('kept: of a text that is replaced and too long to be kept the page says so,
     takeText(TWO_MOVES);
     assert.equal(unkeptNow(), say('unkeptReplaced', { letters }));
   });
+  begin(TEXT);
+});
+
+test('keeping: whether a text is kept is found in the list, also where there is no room for another', () => {
+  forgetAll();
+  withRoom(500, () => {
+    assert.deepEqual([keepProblem(TEXT), keepProblem(withRemark(2000)), keepProblem(TEXT)], [true, false, true]);
+    withRoom(10, () => assert.equal(keepProblem(TEXT), true));
+  });
+  assert.deepEqual(keptTexts(), [TEXT]);
+  assert.deepEqual([withRemark(100001), ' '].map(it => keepProblem(it)), [false, false]);
+  forgetAll();
+});
+
+test('keeping: nobody misses blanks, however many: they are neither kept nor asked for, nor is their loss told of', () => {
+  forgetAll();
+  begin(TEXT);
+  takeText(TWO_MOVES);
+  forgetAll();
+  begin(' \n'.repeat(60000));
+  withRoom(1000, () => {
+    keepLong();
+    assert.deepEqual([unkeptNow(), asksToStay()], ['', false]);
+    takeText(TEXT);
+  });
+  assert.deepEqual([unkeptNow(), asksToStay(), keptTexts()], ['', false, []]);
   begin(TEXT);
 });
 
@@ -1089,7 +1202,7 @@ test('beside: a text that was changed meanwhile stays; a worker that fails is to
   begin(TEXT);
   const [late, failing] = helpersOf(() => [takeText(YAML), takeText(`${YAML}\n`)]);
   late.answer();
-  assert.equal(textNow(), `${YAML}\n`);
+  assert.deepEqual([textNow(), noteNow()], [`${YAML}\n`, say('importChanged')]);
   failing.onerror({ message: 'no room' });
   assert.equal(noteNow(), say('failed', { fault: 'no room' }));
   assert.equal(textNow(), `${YAML}\n`);
@@ -1165,6 +1278,26 @@ test('files: of many that are dropped all problems are one text, and the page sa
   await dropFiles(...Array.from({ length: 9 }, (_, at) => fileOf(`${at}.txt`, 'no problem')));
   assert.equal(noteNow(), 'files read: 0 of 9, problems: 0. without a problem: 0.txt, 1.txt, 2.txt, 3.txt, 4.txt, 4 more');
   assert.equal(blocksOf(textNow()).length, 4);
+});
+
+test('contents: of many problems some are listed, and each is reached by its number', async () => {
+  begin(`BeginProblem\n${Array.from({ length: 2000 }, (_, at) => `Title ${at + 1}\nStipulation #1\n`).join('NextProblem\n')}EndProblem\n`);
+  const listed = () => element('problems').children.map(it => it.textContent);
+  const goTo = async (name, value) => {
+    element(name).value = value;
+    element(name).onchange();
+    while (element('problems').value !== String(state.number)) await new Promise(end => { setTimeout(end, 1); });
+  };
+  assert.ok(listed().length < 1000, `${listed().length} entries`);
+  assert.deepEqual([element('problemNumber').hidden, listed().at(-1), listed().includes('1234. 1234 · #1')], [false, '2000. 2000 · #1', false]);
+  for (const [value, number] of [['1234', 1234], ['9999', 2000], ['-5', 1], ['', 1]]) {
+    await goTo('problemNumber', value);
+    assert.deepEqual([state.number, element('problems').value, element('problemNumber').value], [number, String(number), String(number)]);
+  }
+  await goTo('problems', '1230');
+  for (const number of [1229, 1230, 1231, 1234]) assert.ok(listed().includes(`${number}. ${number} · #1`), `${number}`);
+  begin(TEXT);
+  assert.equal(element('problemNumber').hidden, true);
 });
 
 test('after a key in a long text the problem at the cursor is looked for in slices', async () => {

@@ -139,3 +139,24 @@ test('solving: stopped', async () => {
   solving.stop();
   assert.deepEqual(await ended, { isStopped: true });
 });
+
+test('report: rows are made when they are asked for, and from a line on', () => {
+  const squares = [...'abcdefgh'].flatMap(file => [...'12345678'].map(rank => file + rank)).slice(1);
+  const play = squares.flatMap(one => squares.map(next => `1.Ka1-${one} Qa1-${next}#\n`)).join('');
+  const battle = squares.map(one => `1.Ka1-${one}\n  1...Qa1-b2\n    2.Ra1-a8#\n`).join('');
+  for (const [text, isHelp] of [[`problem 1\nh#1\nplay\n${play}`, true], [`problem 1\n#2\nplay\n${battle}`, false]]) {
+    const [phase] = itemsOf(text)[0].phases;
+    const lists = [];
+    const made = (rows, above) => lists.push([rows.length, above]);
+    const rows = rowsOf(phase, isHelp, { made });
+    assert.deepEqual([rows.length, lists], [63, [[63, null]]]);
+    assert.equal(rows.every(it => it.hasBelow), true);
+    assert.equal(rows[5].below, rows[5].below);
+    assert.deepEqual(lists.slice(1), [[rows[5].below.length, rows[5]]]);
+    const { from } = rows[62];
+    for (let at = 0; at < from; at++) Object.defineProperty(phase.solutions, at, { get() { throw new Error('looked at'); } });
+    const [last, ...others] = rowsOf(phase, isHelp, { from });
+    assert.deepEqual([last.moves, last.to, others], [rows[62].moves, phase.solutions.length, []]);
+    assert.deepEqual(last.below.map(it => it.moves[0].said), rows[62].below.map(it => it.moves[0].said));
+  }
+});

@@ -6,7 +6,9 @@ import { barredAfter, halfAfter, moveBetween, promotes, stipulationAfter, withPr
 import { after, changed, exchanged, fenOf, menOfRanks, placeOf, ranksOf, readFen, squareOf } from '../../web/position.js';
 import { fileNameOf, fragmentOf, keptOf, nameOfText, Steps, textOfBytes, textOfFragment, visitOf, withKept, writtenVisit } from '../../web/store.js';
 import { atOnce } from '../../web/slices.js';
-import { blockAt, blocksOf, fieldsOf, lineAt, menOf, posedAlike, sidesOf, tailOf, valueOf, withField, withMen, withoutLines, withTail, wordsOf } from '../../web/text.js';
+import {
+  blockAt, blocksOf, cleared, fieldsOf, lineAt, menOf, posedAlike, sidesOf, tailOf, valueOf, withFen, withField, withMen, withTail, wordsOf,
+} from '../../web/text.js';
 import { language, say, sayMan } from '../../web/words.js';
 import { makeDocument } from '../helpers/page_imports.mjs';
 
@@ -147,10 +149,68 @@ test('play: a stipulation by choice and number', () => {
   assert.deepEqual(made.map(it => stipulationOf(...it)), ['#3', '#3', 'h#2.5', 'h=2', 's#2', 'h#2', '#16', 'h#2*', null]);
 });
 
+test('store: undo keeps few long texts, many short ones, and always the last step', () => {
+  const long = (/** @type {number} */ number, millions = 3) => `${number}`.padEnd(millions << 20);
+  const steps = new Steps(long(0));
+  for (let number = 1; number < 20; number++) steps.add(long(number));
+  assert.deepEqual([steps.texts.length, steps.place, steps.go(-1)?.startsWith('18 ')], [10, 9, true]);
+  steps.add('short');
+  assert.deepEqual([steps.texts.length, steps.go(-1)?.startsWith('18 '), steps.go(1)], [10, true, 'short']);
+  for (const number of [1, 2, 3]) steps.add(long(number, 20));
+  assert.deepEqual([steps.texts.length, steps.go(-1)?.startsWith('2 '), steps.has(-1), steps.has(1)], [2, true, false, true]);
+  const short = new Steps('');
+  for (let number = 1; number < 400; number++) short.add(`${number}`);
+  assert.deepEqual([short.texts.length, short.place, short.texts[0]], [200, 199, '200']);
+});
+
 test('store: files are named after the title', () => {
   assert.deepEqual(['A first problem', 'Über “Größe”, 2.', '../../x', '', null].map(it => fileNameOf(it, 'pop')),
     ['A-first-problem.pop', 'Über-Größe-2.pop', 'x.pop', 'pops.pop', 'pops.pop']);
   assert.equal(fileNameOf('x'.repeat(100), 'svg').length, 64);
+});
+
+// Lines of a problem, or parts of one.
+const LINES = [
+  'Pieces White Ka1 Black Kh8', 'Pieces White Kb1 Black Kg8 Pa7', 'Title T', 'Author A', 'Remark R r', 'Stipulation #2', 'Condition Circe', 'Option NoCastling h1',
+  'Option EnPassant e3 NoCastling h1 a1h8', 'Option Variation EnPassant e3', 'Option SetPlay MaxSolutions 3', 'Option', 'NoCastling e1', 'EnPassant d6', 'junk',
+];
+const FIELDS = ['title', 'author', 'stipulation', 'condition', 'SetPlay', 'Variation', 'MaxSolutions', 'EnPassant', 'NoCastling'];
+
+/** Returns what the first problem of a text says, but for commands without words. */
+function saidIn(text) {
+  const [block] = blocksOf(text);
+  const fields = fieldsOf(text, block);
+  return [[...menOf(block).men], FIELDS.map(name => valueOf(fields, name)), block.words.map(it => it.word).filter(it => it !== 'Option')];
+}
+
+test('text: a FEN changes what men and options change one after another, without a reading between them', () => {
+  let number = 1;
+  const draw = (/** @type {any[]} */ all) => all[(number = (number * 1103515245 + 12345) % 2 ** 31) % 65537 % all.length];
+  for (let tried = 0; tried < 3000; tried++) {
+    const lines = Array.from({ length: draw([0, 1, 2, 3, 4, 5, 6]) }, () => draw(LINES) + draw(['\n', '\n', ' ', '\r\n', '\n\n'])).join('');
+    const text = `${draw(['', 'x\n'])}BeginProblem\n${lines}${draw(['', 'EndProblem\n', 'NextProblem\nOption Variation\nEndProblem\n'])}`;
+    const fen = { men: draw([new Map(), men('wKa1', 'bKh8')]), turn: 'w', crossed: draw([null, 'e6']), noCastling: draw([[], ['h1'], ['a1', 'h8']]) };
+    const { from } = blocksOf(text)[0];
+    const squares = withField(withMen(text, from, fen.men), from, 'EnPassant', fen.crossed);
+    const wanted = saidIn(withField(squares, from, 'NoCastling', fen.noCastling.join('') || null));
+    assert.equal(blocksOf(text).length > 0, true);
+    const made = withFen(text, from, fen);
+    assert.equal(blocksOf.knows(text), true);
+    assert.deepEqual(saidIn(made), wanted, text);
+    cleared(text, blocksOf(text)[0].from);
+    assert.equal(blocksOf.knows(text), true);
+  }
+});
+
+test('text: what clear removes, also where options stand between others and commands lose all their words', () => {
+  const posed = said => `BeginProblem\n${said}EndProblem\n`;
+  for (const [given, wanted] of [
+    ['Title A\nAuthor B\nOrigin C\nRemark D\nPieces White Ka1\nStipulation #2\nPieces Black Kh8\n', 'Author B\nStipulation #2\n'],
+    ['Option EnPassant e3 SetPlay NoCastling h1 a1h8 Variation\n', 'Option SetPlay Variation\n'],
+    ['Option EnPassant e3 NoCastling h1\nOption NoCastling a1 NoCastling h8\nOption Variation\n', 'Option Variation\n'],
+    ['Pieces White Ka1 Option NoCastling h1 Stipulation #2\n', ' Stipulation #2\n'],
+    ['Stipulation #2\n', 'Stipulation #2\n'],
+  ]) assert.equal(cleared(posed(given), 0), posed(wanted));
 });
 
 test('text: a long text that says one thing again and again is read and changed in little time', () => {
@@ -169,7 +229,7 @@ test('text: a long text that says one thing again and again is read and changed 
   assert.ok(withField(words, 0, 'NoCastling', null) === posed('Option SetPlay\n'));
   const men = posed('Pieces White Ka1\nRem x\n'.repeat(many));
   assert.ok(withMen(men, 0, new Map([['b2', 'wK']])) === posed('Rem x\n'.repeat(many)).replace('White Ke1 Ra1 Black Ke8', 'White Kb2'));
-  assert.ok(withoutLines(posed('Rem x\nCond Circe\n'.repeat(many)), 0, ['remark']) === posed('Cond Circe\n'.repeat(many)));
+  assert.ok(cleared(posed('Rem x\nCond Circe\n'.repeat(many)), 0) === posed('Cond Circe\n'.repeat(many)).replace('Pieces White Ke1 Ra1 Black Ke8\n', ''));
   const { user, system } = process.cpuUsage(begun);
   assert.ok(user + system < 6e7, `${user + system} microseconds`);
 });

@@ -6,7 +6,7 @@ import { impossibleCounts } from '../items.js';
 import { changed, countOf, exchanged, readFen } from '../position.js';
 import { inSlices, LONG_TEXT } from '../slices.js';
 import {
-  blockAt, blocksOf, fenOfBlock, lineOf, menOf, NEW_PROBLEM, readText, tailOf, withFen, withField, withLine, withMen, withoutLines, withTail,
+  blockAt, blocksOf, cleared, fenOfBlock, lineOf, menOf, readText, tailOf, withFen, withLine, withMen, withNewProblem, withTail,
 } from '../text.js';
 import { say } from '../words.js';
 import { fitPart, followCaret, scrollToLine, select, selectionNow, showText } from './area.js';
@@ -85,12 +85,21 @@ export function goToProblem(number) {
   scrollToLine(lineOf(textNow(), block.from), 2);
 }
 
+/** Shows the problem whose number was written, or the nearest one. */
+export function numberWritten() {
+  const field = element('problemNumber');
+  const { length } = blocksOf(textNow());
+  const number = Math.min(Math.max(Math.trunc(Number(field.value)) || state.number, 1), length);
+  field.value = String(number);
+  goToProblem(number);
+}
+
 /**
  * Returns the problem on the board, after a new one was added to a text without problems.
  * @returns {Block}
  */
 function blockMade() {
-  if (!blockNow()) showText(textNow() + NEW_PROBLEM);
+  if (!blockNow()) showText(withNewProblem(textNow()));
   return /** @type {Block} */ (blockNow());
 }
 
@@ -129,9 +138,7 @@ function clearProblem() {
   endTyping();
   leave();
   const { from } = blockMade();
-  let text = withoutLines(withMen(textNow(), from, new Map()), from, ['title', 'origin', 'remark']);
-  for (const name of ['EnPassant', 'NoCastling']) text = withField(text, from, name, null);
-  setText(text);
+  setText(cleared(textNow(), from));
 }
 
 /**
@@ -206,8 +213,10 @@ export function takeText(given) {
   let isShown = false;
   const isMade = doChore('import', { text }, made => {
     if (!isShown) replaceText(made.text ?? text);
-    else if (textNow() !== text) return;
-    else if (made.text) setText(made.text);
+    else if (textNow() !== text) {
+      note(say('importChanged'));
+      return;
+    } else if (made.text) setText(made.text);
     sayImported(made);
   }, fault => note(say('failed', { fault })));
   if (isMade) return;
@@ -303,7 +312,7 @@ function sayImported(made) {
 export function addProblem() {
   endTyping();
   const blocks = blocksOf(textNow());
-  const text = blocks.length ? withLine(textNow(), blocks[blocks.length - 1], 'NextProblem\nStipulation #2') : textNow() + NEW_PROBLEM;
+  const text = blocks.length ? withLine(textNow(), blocks[blocks.length - 1], 'NextProblem\nStipulation #2') : withNewProblem(textNow());
   state.choose(blocks.length + 1);
   setText(text);
 }

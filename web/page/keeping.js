@@ -17,13 +17,12 @@ export function whenKept(act) {
 export const keptList = () => keptOf(kept('pops.kept') ?? '[]');
 
 /**
- * Stores the list of kept problems; null removes it. Returns false if the browser has no room for it.
+ * Stores the list of kept problems, if the browser has room for it; null removes it.
  * @param {KeptText[] | null} list
  */
 export function storeList(list) {
-  const isStored = keep('pops.kept', list && JSON.stringify(list));
+  keep('pops.kept', list && JSON.stringify(list));
   showList();
-  return isStored;
 }
 
 /**
@@ -32,8 +31,8 @@ export function storeList(list) {
  * @param {{ isLinked?: boolean, tab?: string }} [more]
  */
 export function keepProblem(text, more = {}) {
-  const list = withKept(keptList(), { text, time: Date.now(), ...more });
-  return storeList(list) && isKeptText(text);
+  storeList(withKept(keptList(), { text, time: Date.now(), ...more }));
+  return isKeptText(text);
 }
 
 /** @param {string} text */

@@ -176,6 +176,10 @@ function saveLatex() {
 
 /** Saves the problems in YAML, and says which are left out. */
 function saveYaml() {
+  if (!blockNow()) {
+    note(say('none'), () => !blockNow());
+    return;
+  }
   const file = nameNow('yaml');
   make('yaml', { text: textNow(), report: state.report, numbers: numbersOf(itemsNow()) }, ({ text, lost }) => {
     save(file, 'application/yaml', text);

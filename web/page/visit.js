@@ -2,6 +2,7 @@
 // What a reload of the page shows again, what it would lose, and links that are opened.
 import { element } from '../elements.js';
 import { readFen } from '../position.js';
+import { LONG_TEXT } from '../slices.js';
 import { latestSteps, MOST_KEPT_LETTERS, textOfFragment, visitOf, writtenVisit } from '../store.js';
 import { blockAt, NEW_PROBLEM, withFen } from '../text.js';
 import { language, say } from '../words.js';
@@ -12,16 +13,33 @@ import { state, textNow } from './state.js';
 import { keep, keepInTab, kept, keptInTab } from './storage.js';
 import { note } from './views.js';
 
+// In milliseconds: a browser takes a hundred for five million letters.
+const STORING_PAUSE = 1000;
 /** The fragment of the link that was opened last. */
 let link = '';
 /** The text that was saved last as a file. */
 let savedText = '';
+/** @type {{ timer: ReturnType<typeof setTimeout> | undefined, isKept: boolean }} runs out when a long text is stored next; whether the last one was kept */
+const storing = { timer: undefined, isKept: true };
 
 /** Stores the text in work and this visit, for a reload of this tab and for the next visit; returns whether both will find the text. */
 export function storeVisit() {
   endTyping();
   keepText();
-  return keepsVisit() || storedByTab() !== null;
+  return storeNow();
+}
+
+/** Stores this visit at once, and says which texts aren't kept; returns whether the next visit will find the text in work. */
+function storeNow() {
+  endWaiting();
+  storing.isKept = keepsVisit() || storedByTab() !== null;
+  tellUnkept();
+  return storing.isKept;
+}
+
+function endWaiting() {
+  clearTimeout(storing.timer);
+  storing.timer = undefined;
 }
 
 /** Stores this visit; returns whether the next one will find it. */
@@ -37,9 +55,21 @@ function keepsVisit() {
   return isKept;
 }
 
-/** Stores a long text, and says which texts aren't kept. */
+/** Says which texts aren't kept, and stores a long one a moment later. */
 export function sayUnkept() {
-  const isKept = storedByTab() !== null || keepsVisit() || isNobodys(textNow());
+  if (storedByTab() === null && textNow().length < LONG_TEXT) {
+    storeNow();
+    return;
+  }
+  if (storedByTab() !== null) {
+    endWaiting();
+    storing.isKept = true;
+  } else storing.timer ??= setTimeout(storeNow, STORING_PAUSE);
+  tellUnkept();
+}
+
+function tellUnkept() {
+  const isKept = storing.isKept || isNobodys(textNow());
   const text = unkeptText();
   const isReplaced = text !== '' && text !== textNow() && state.steps.texts.includes(text);
   const letters = MOST_KEPT_LETTERS.toLocaleString(language);
