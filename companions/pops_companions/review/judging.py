@@ -178,7 +178,7 @@ def judged(
             _judge_tries(judgement, tries)
     _judge_set_play(judgement, item, play)
     if item.board is not None and item.stipulation.play is Play.HELP:
-        judgement.keywords = mates_in(item, item.board.men)
+        judgement.keywords = mates_in(item, item.board.letters)
     if judgement.keywords:
         judgement.find(Weight.NOTE, f"all mates: {', '.join(judgement.keywords)}")
     return judgement
