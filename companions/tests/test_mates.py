@@ -1,26 +1,51 @@
 """Pure, model and ideal mates and echoes, worked out by hand."""
 
+import random
 import unittest
+from collections import Counter
 from collections.abc import Iterator
 from unittest import mock
 
-from pops_companions.chess.attacks import Men
-from pops_companions.chess.men import Colour
+from pops_companions.chess.attacks import attackers
+from pops_companions.chess.men import Colour, Kind, Man, Square
 from pops_companions.find.entries import men_in
-from pops_companions.report.items import HelpLine, SoundItem
+from pops_companions.report.items import Board, HelpLine, SoundItem
 from pops_companions.report.reader import read_report
-from pops_companions.review.mates import Mate, keywords_of, mate_of, mates_of
+from pops_companions.review.mates import Mate, Men, keywords_of, mate_of, mates_in, mates_of, men_of
 from tests import run_here, support
 
 
 def men(text: str) -> Men:
-    return dict(men_in(text))
+    return men_of(Board.of_men(dict(men_in(text))).letters)
 
 
 def mate(text: str) -> Mate:
-    found = mate_of(men(text), Colour.BLACK)
+    found = mate_of(men(text))
     assert found is not None
     return found
+
+
+def plain_name(board: dict[Square, Man], king: Square) -> str:
+    """The name of a mate, by looking at each square beside the king for itself."""
+    others = {square: man for square, man in board.items() if square != king}
+    checks = attackers(others, king, Colour.WHITE, False)
+    taking_part = set(checks)
+    if len(checks) != 1:
+        return ""
+    for square in Square.of_diagram():
+        if square == king or max(abs(square.file - king.file), abs(square.rank - king.rank)) > 1:
+            continue
+        guards = attackers(others, square, Colour.WHITE, False)
+        is_blocked = square in others and others[square].colour is Colour.BLACK
+        if len(guards) != (0 if is_blocked else 1):
+            return ""
+        taking_part.update([square] if is_blocked else guards)
+    idle = [man for square, man in others.items() if square not in taking_part]
+    if not idle:
+        return "ideal"
+    officers = (Kind.QUEEN, Kind.ROOK, Kind.BISHOP, Kind.KNIGHT)
+    is_model = not any(it.colour is Colour.WHITE and it.kind in officers for it in idle)
+    return "model" if is_model else "pure"
 
 
 class Mates(unittest.TestCase):
@@ -31,7 +56,7 @@ class Mates(unittest.TestCase):
         assert isinstance(item, SoundItem) and item.phases and item.board
         lines = [it for it in item.phases[0].solutions if isinstance(it, HelpLine)]
         with mock.patch("pops_companions.review.mates.mate_of", wraps=mate_of) as looked:
-            mates = list(mates_of(item.board.men, lines, Colour.BLACK))
+            mates = list(mates_of(men_of(item.board.letters), lines))
         self.assertEqual(len(mates), len(lines))
         positions = [frozenset(call.args[0].items()) for call in looked.call_args_list]
         self.assertEqual(len(set(positions)), len(positions))
@@ -58,9 +83,45 @@ class Mates(unittest.TestCase):
             with self.subTest(text):
                 self.assertEqual(mate(text).name, wanted)
 
+    def test_names_of_many_positions(self) -> None:
+        """They are what a look at each square says; many positions are near to mates."""
+        chance = random.Random(8)
+        seen: Counter[str] = Counter()
+        for _ in range(4000):
+            places = [it for it in range(64) if it // 8 < 4 and it % 8 < 4] + [63, 7, 56]
+            chance.shuffle(places)
+            letters = ["."] * 64
+            letters[chance.choice([0, 1, 10])] = "k"
+            for letter in "K" + "".join(chance.choices("QRBSPpprbs", k=chance.randint(1, 6))):
+                place = places.pop()
+                if letters[place] == ".":
+                    letters[place] = letter
+            board = Board.of_letters("".join(letters))
+            (king,) = [it for it, man in board.men.items() if man == Man(Colour.BLACK, Kind.KING)]
+            found = mate_of(men_of(board.letters))
+            assert found is not None
+            self.assertEqual(found.name, plain_name(board.men, king), board)
+            seen[found.name] += 1
+        self.assertTrue(all(seen[name] > 4 for name in ("ideal", "model", "pure", "")), seen)
+
+    def test_a_line_of_other_men_has_no_mate(self) -> None:
+        """Where a move has no man, or a castling no rook."""
+        for men_text, line in (
+            ("White Ke1 Rh1 Black Ka8", b"1.Ka8-a7 0-0-0#"),
+            ("White Ke1 Black Ka8", b"1.Ka8-a7 0-0#"),
+            ("White Ke1 Rh1 Black Ka8", b"1.Kb8-b7 0-0#"),
+        ):
+            board = Board.of_men(dict(men_in(men_text)))
+            rows = b"".join(b"%d %s\n" % (8 - at, row.encode()) for at, row in enumerate(board.ranks))
+            text = b"problem 1\n" + rows + b"  abcdefgh\nh#1\nplay\n" + line + b"\nsolutions: 1\n\n"
+            (item,) = read_report([text])
+            assert isinstance(item, SoundItem)
+            with self.subTest(line):
+                self.assertEqual(mates_in(item, board.letters), [])
+
     def test_no_names_with_fairy_men(self) -> None:
-        self.assertIsNone(mate_of(men("White Kb6 Rh8 Gh1 Black Ka8"), Colour.BLACK))
-        self.assertIsNone(mate_of(men("White Kb6 Rh8"), Colour.BLACK))
+        self.assertIsNone(mate_of(men("White Kb6 Rh8 Gh1 Black Ka8")))
+        self.assertIsNone(mate_of(men("White Kb6 Rh8")))
 
     def test_none_is_looked_at_after_one_that_is_not_pure(self) -> None:
         seen: list[str] = []

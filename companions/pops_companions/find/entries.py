@@ -8,7 +8,7 @@ from typing import Optional
 
 from pops_companions.chess.men import LETTERS, Colour, Kind, Man, Square
 from pops_companions.export.problems import Problem, read_problems
-from pops_companions.find.boards import board_of, men_of
+from pops_companions.find.boards import board_of
 from pops_companions.find.dates import date_of
 from pops_companions.import_.words import Unreadable
 from pops_companions.report.items import Node, PhaseKind, SoundItem
@@ -52,7 +52,7 @@ class Entry:
         """Returns the problem with the play of an item of a report, and with what its mates are."""
         if item is None:
             return self
-        known = filter(None, (self.keywords, *mates_in(item, men_of(self.board))))
+        known = filter(None, (self.keywords, *mates_in(item, self.board)))
         return replace(self, play=play_of(item) or self.play, keywords="; ".join(known))
 
     @property

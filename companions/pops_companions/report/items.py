@@ -11,6 +11,10 @@ from pops_companions.report import lines
 from pops_companions.report.moves import PlayedMove
 
 
+_DIAGRAM = list(Square.of_diagram())
+_NOT_POSSIBLE = lines.NOT_POSSIBLE.decode("ascii")
+
+
 class PhaseKind(Enum):
     """A phase of the solutions; its value is the printed word."""
 
@@ -58,7 +62,7 @@ class Phase:
 
     @property
     def is_possible(self) -> bool:
-        return self.last_line != lines.NOT_POSSIBLE.decode("ascii")
+        return self.last_line != _NOT_POSSIBLE
 
     @property
     def nodes(self) -> list[Node]:
@@ -99,9 +103,10 @@ class Board:
     @property
     def men(self) -> dict[Square, Man]:
         """The men by their squares, in the order of the diagram."""
+        squares = _DIAGRAM
         return {
-            square: Man.of_letter(letter)
-            for square, letter in zip(Square.of_diagram(), self.letters)
+            squares[place]: Man.of_letter(letter)
+            for place, letter in enumerate(self.letters)
             if letter != "."
         }
 
@@ -148,7 +153,10 @@ class SoundItem:
 
     def phase(self, kind: PhaseKind) -> Optional[Phase]:
         """Returns a phase; None where the report doesn't show it."""
-        return next((it for it in self.phases or () if it.kind is kind), None)
+        for phase in self.phases or ():
+            if phase.kind is kind:
+                return phase
+        return None
 
 
 @dataclass(frozen=True)

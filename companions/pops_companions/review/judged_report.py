@@ -9,6 +9,7 @@ from typing import BinaryIO, NamedTuple, Union
 
 from pops_companions.many.forked import Alone, Copies, can_fork
 from pops_companions.report.items import AnyItem
+from pops_companions.report.known_lines import KnownLines
 from pops_companions.report.reader import pieces_of, read_unfinished_report
 from pops_companions.report.source import NamedText
 from pops_companions.review.beside import Beside, Course
@@ -51,6 +52,7 @@ class JudgedReport:
         self._form = form
         self._tally = tally
         self._course = Course()
+        self._known = KnownLines()
         self._like = None
         if form.is_plain and beside.is_alone:
             self._like = LikeProblems(form.encoding, form.apart)
@@ -164,7 +166,8 @@ class JudgedReport:
         return True
 
     def _items(self, chunks: Iterable[bytes], line: int) -> Iterator[AnyItem]:
-        return self._report.items(chunks, partial(read_unfinished_report, line=line))
+        read = partial(read_unfinished_report, line=line, known=self._known)
+        return self._report.items(chunks, read)
 
     def _items_to_end(self, chunks: Iterable[bytes], line: int) -> Iterator[AnyItem]:
         yield from self._items(chunks, line)

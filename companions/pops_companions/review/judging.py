@@ -178,7 +178,7 @@ def judged(
             _judge_tries(judgement, tries)
     _judge_set_play(judgement, item, play)
     if item.board is not None and item.stipulation.play is Play.HELP:
-        judgement.keywords = mates_in(item, item.board.men)
+        judgement.keywords = mates_in(item, item.board.letters)
     if judgement.keywords:
         judgement.find(Weight.NOTE, f"all mates: {', '.join(judgement.keywords)}")
     return judgement
@@ -341,7 +341,7 @@ def _ends(move: PlayedMove) -> bool:
 
 def _judge_duals(judgement: Judgement, stipulation: Stipulation, play: Phase) -> None:
     if stipulation.play is Play.HELP:
-        duals = list(late_partings(play.help_lines))
+        duals = late_partings(play.help_lines)
     else:
         keys = play.nodes
         if any(not key.below and not _ends(key.move) for key in keys):

@@ -1,89 +1,158 @@
-"""Pure, model and ideal mates, and echoes, among the mates of help play.
+"""Pure, model and ideal mates, and echoes, among the mates of help play: Black is mated.
 
 Only for orthodox men without a condition. Pins aren't looked at: a mate that needs a pin counts by
 its squares alone.
 """
 
-from collections.abc import Iterable, Iterator
+from collections.abc import Iterable, Iterator, Sequence
+from functools import lru_cache
 from typing import NamedTuple, Optional
 
-from pops_companions.chess.attacks import Men, attackers
-from pops_companions.chess.men import FAIRY_KINDS, Colour, Kind, Man, Square
+from pops_companions.chess.men import FAIRY_KINDS, GAITS, STEPS, Colour, Gait, Kind, Man, Square
 from pops_companions.chess.stipulation import Goal, Play
 from pops_companions.report.items import HelpLine, PhaseKind, SoundItem
-from pops_companions.report.moves import Mark
-from pops_companions.sheet.boards import after
+from pops_companions.report.moves import Castling, Mark, PlayedMove
 
-_OFFICERS = (Kind.QUEEN, Kind.ROOK, Kind.BISHOP, Kind.KNIGHT)
-_STEPS = [(file, rank) for file in (-1, 0, 1) for rank in (-1, 0, 1) if file or rank]
+# The men of a board by their places in its letters: 0 is a8, 63 is h1.
+Men = dict[int, str]
 # A position with the mated king at 0,0: the men that take part, by their places from there.
-Picture = frozenset[tuple[int, int, Man]]
+Picture = frozenset[tuple[int, int, str]]
+
+_KING = "k"
+_OFFICERS = frozenset("QRBS")
+_WHITE = frozenset(kind.value for kind in Kind)
+_FAIRY = frozenset(letter for kind in FAIRY_KINDS for letter in (kind.value, kind.value.lower()))
+_SQUARES = list(Square.of_diagram())
+_PLACES = {square: place for place, square in enumerate(_SQUARES)}
+# The places of a castling's rook from the king's: where it comes from, and where it goes.
+_OF_ROOK = {Castling.SHORT: (3, 1), Castling.LONG: (-4, -1)}
 
 
 class Mate(NamedTuple):
-    """A mate: what it is called, as `ideal`, its picture, and the king's square.
+    """A mate: what it is called, as `ideal`, its picture, and the king's place.
 
     One that isn't pure has no name and an empty picture.
     """
 
     name: str
     picture: Picture
-    king: Square
+    king: int
 
 
-def mate_of(men: Men, mated: Colour) -> Optional[Mate]:
-    """Returns what a position of mate is; None with fairy men, or without a king."""
-    king = next((it for it, man in men.items() if man == Man(mated, Kind.KING)), None)
-    if king is None or any(man.kind in FAIRY_KINDS for man in men.values()):
+def men_of(letters: str) -> Men:
+    """Returns the men of a board."""
+    return {place: letter for place, letter in enumerate(letters) if letter != "."}
+
+
+def mate_of(men: Men) -> Optional[Mate]:
+    """Returns what a position of mate is; None with fairy men, or without a black king."""
+    king = next((place for place, letter in men.items() if letter == _KING), None)
+    if king is None or not _FAIRY.isdisjoint(men.values()):
         return None
-    without = {square: man for square, man in men.items() if square != king}
-    checks = attackers(men, king, mated.opponent, False)
-    taking_part, others = set(checks), dict(without)
-    is_pure = len(checks) == 1
-    for square in _field(king) if is_pure else ():
-        own = others.pop(square, None)
-        guards = attackers(others, square, mated.opponent, False)
-        if own is not None:
-            others[square] = own
-        is_blocked = own is not None and own.colour is mated
-        is_pure = len(guards) == (0 if is_blocked else 1)
-        taking_part.update([square] if is_blocked else guards)
-        if not is_pure:
-            break
-    if not is_pure:
+    taking_part = _taking_part(men, king)
+    if taking_part is None:
         return Mate("", frozenset(), king)
-    idle = [man for square, man in without.items() if square not in taking_part]
-    is_model = not any(man.colour is not mated and man.kind in _OFFICERS for man in idle)
-    name = "ideal" if not idle else "model" if is_model else "pure"
-    picture = frozenset(
-        (square.file - king.file, square.rank - king.rank, men[square]) for square in taking_part
-    )
+    idle = {men[place] for place in men.keys() - taking_part - {king}}
+    name = "ideal" if not idle else "model" if _OFFICERS.isdisjoint(idle) else "pure"
+    rank, file = divmod(king, 8)
+    picture = frozenset([(it % 8 - file, it // 8 - rank, men[it]) for it in taking_part])
     return Mate(name, picture, king)
 
 
-def _field(king: Square) -> Iterator[Square]:
-    for file, rank in _STEPS:
-        square = Square(king.file + file, king.rank + rank)
-        if 1 <= square.file <= 8 and 1 <= square.rank <= 8:
-            yield square
+def _taking_part(men: Men, king: int) -> Optional[set[int]]:
+    """Returns the places of the men that take part in a mate; None if it isn't pure.
+
+    In a pure mate one man gives check, and each square beside the king has one guard, or a black man
+    on it and none.
+    """
+    occupied = sum([1 << place for place in men if place != king])
+    guards: dict[int, int] = {}
+    for place, letter in men.items():
+        if letter in _WHITE:
+            for target, between in _guarded(letter, place, king):
+                if not between & occupied:
+                    if target in guards:
+                        return None
+                    guards[target] = place
+    taking_part: set[int] = set()
+    for place in _field(king):
+        is_blocked = place in men and place != king and men[place] not in _WHITE
+        if is_blocked is (place in guards):
+            return None
+        taking_part.add(guards.get(place, place))
+    return taking_part
 
 
-def mates_of(men: Men, lines: Iterable[HelpLine], mated: Colour) -> Iterator[Mate]:
+@lru_cache(maxsize=None)
+def _field(king: int) -> list[int]:
+    """Returns the places of a king and beside him."""
+    rank, file = divmod(king, 8)
+    return [it for it in range(64) if abs(it // 8 - rank) <= 1 and abs(it % 8 - file) <= 1]
+
+
+@lru_cache(maxsize=None)
+def _guarded(letter: str, origin: int, king: int) -> list[tuple[int, int]]:
+    """Returns the places of a king's field that a man may guard, and the places between as bits."""
+    reached = _reached(letter, origin)
+    return [(place, reached[place]) for place in _field(king) if place in reached]
+
+
+@lru_cache(maxsize=None)
+def _reached(letter: str, origin: int) -> dict[int, int]:
+    """Returns the places that a man attacks on an empty board, and the places between as bits."""
+    man, begin = Man.of_letter(letter), _SQUARES[origin]
+    up = -1 if man == Man(Colour.BLACK, Kind.PAWN) else 1
+    found: dict[int, int] = {}
+    for file, rank in STEPS[man.kind]:
+        between = 0
+        square = Square(begin.file + file, begin.rank + up * rank)
+        while square in _PLACES:
+            found[_PLACES[square]] = between
+            if GAITS[man.kind] is not Gait.RIDER:
+                break
+            between |= 1 << _PLACES[square]
+            square = Square(square.file + file, square.rank + up * rank)
+    return found
+
+
+def mates_of(men: Men, lines: Iterable[HelpLine]) -> Iterator[Mate]:
     """Yields the mates that lines of help play end in; none of a line of other men."""
     # (many lines end in the same position)
-    known: dict[frozenset[tuple[Square, Man]], Optional[Mate]] = {}
+    known: dict[frozenset[tuple[int, str]], Optional[Mate]] = {}
     for line in lines:
         if line.moves[-1].mark is not Mark.MATE:
             continue
-        last = men
-        for move in line.moves:
-            last = after(last, move) if move.origin in last else {}
+        last = _after(men, line.moves)
         position = frozenset(last.items())
         if position not in known:
-            known[position] = mate_of(last, mated)
+            known[position] = mate_of(last)
         mate = known[position]
         if mate is not None:
             yield mate
+
+
+def _after(men: Men, moves: Sequence[PlayedMove]) -> Men:
+    """Returns the men after some moves; none where a move has no man."""
+    now = men.copy()
+    for move in moves:
+        origin, arrival = _PLACES[move.origin], _PLACES[move.arrival]
+        man = now.pop(origin, None)
+        if man is None:
+            return {}
+        if move.en_passant:
+            now.pop(origin - origin % 8 + arrival % 8, None)
+        if move.promotion is not None:
+            letter = move.promotion.value
+            man = letter if man.isupper() else letter.lower()
+        now[arrival] = man
+        if move.castling is not None:
+            corner, crossed = _OF_ROOK[move.castling]
+            if origin + corner not in now:
+                return {}
+            now[origin + crossed] = now.pop(origin + corner)
+        if move.rebirth is not None:
+            now[_PLACES[move.rebirth.square]] = move.rebirth.man.letter
+    return now
 
 
 def keywords_of(mates: Iterable[Mate]) -> list[str]:
@@ -108,43 +177,44 @@ def keywords_of(mates: Iterable[Mate]) -> list[str]:
         if names <= wanted:
             found.append(name)
             break
-    places: dict[tuple[tuple[int, int, str], ...], set[tuple[Square, Picture]]] = {}
-    for mate in pure if len(pure) > 1 else ():
-        first = min(map(_sorted, _turned(mate.picture)))
-        places.setdefault(first, set()).add((mate.king, mate.picture))
-    echoes = [it for it in places.values() if len(it) > 1]
-    shades = [{(king.file + king.rank) % 2 for king, _ in it} for it in echoes]
+    shades = [{(king % 8 + king // 8) % 2 for king, _ in it} for it in _echoes(pure)]
     if any(len(it) == 2 for it in shades):
         found.append("chameleon echo")
-    elif echoes:
+    elif shades:
         found.append("echo")
     return found
 
 
-def mates_in(item: SoundItem, men: Men) -> list[str]:
+def _echoes(mates: Iterable[Mate]) -> Iterator[set[tuple[int, Picture]]]:
+    """Yields the pictures, with the kings' places, that are one picture moved."""
+    alike: dict[tuple[tuple[int, str], ...], set[tuple[int, Picture]]] = {}
+    for mate in mates:
+        # (the men's distances stay, however a picture is turned)
+        far = tuple(sorted([(x * x + y * y, letter) for x, y, letter in mate.picture]))
+        alike.setdefault(far, set()).add((mate.king, mate.picture))
+    for some in alike.values():
+        places: dict[tuple[tuple[int, int, str], ...], set[tuple[int, Picture]]] = {}
+        for king, picture in some if len(some) > 1 else ():
+            places.setdefault(min(_turned(picture)), set()).add((king, picture))
+        yield from (it for it in places.values() if len(it) > 1)
+
+
+def mates_in(item: SoundItem, letters: str) -> list[str]:
     """Returns what the mates of a help mate are; nothing for other problems, or under a condition.
 
-    `men` are the men of its diagram.
+    `letters` are those of its diagram.
     """
-    is_help_mate = (item.stipulation.play, item.stipulation.goal) == (Play.HELP, Goal.MATE)
-    if not is_help_mate or item.condition is not None or not men:
+    is_help_mate = item.stipulation.play is Play.HELP and item.stipulation.goal is Goal.MATE
+    if not is_help_mate or item.condition is not None:
         return []
     play = item.phase(PhaseKind.PLAY)
     lines = [] if play is None else play.help_lines
-    return keywords_of(mates_of(men, lines, Colour.BLACK))
+    return keywords_of(mates_of(men_of(letters), lines)) if lines else []
 
 
-def _sorted(picture: Picture) -> tuple[tuple[int, int, str], ...]:
-    """Returns a picture by letters, in an order that all pictures share."""
-    return tuple(sorted((file, rank, man.letter) for file, rank, man in picture))
-
-
-def _turned(picture: Picture) -> Iterator[Picture]:
-    """Yields a picture mirrored and turned in all eight ways."""
-    for swaps in (False, True):
-        for one in (1, -1):
-            for other in (1, -1):
-                yield frozenset(
-                    ((rank * one, file * other, man) if swaps else (file * one, rank * other, man))
-                    for file, rank, man in picture
-                )
+def _turned(picture: Picture) -> Iterator[tuple[tuple[int, int, str], ...]]:
+    """Yields a picture mirrored and turned in all eight ways, each in an order that all share."""
+    for one in (1, -1):
+        for other in (1, -1):
+            yield tuple(sorted([(x * one, y * other, letter) for x, y, letter in picture]))
+            yield tuple(sorted([(y * one, x * other, letter) for x, y, letter in picture]))
