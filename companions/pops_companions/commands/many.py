@@ -274,9 +274,9 @@ class Solving:
         self._programs = programs_of(settings, self._options)
         # (pops, and pops-part where it is needed)
         parts = self._programs.parts
-        programs = [self._programs.whole, *([parts.parts] if parts else [])]
-        self._known = [known_of(program, known) for program in programs]
+        self._known = [known_of(self._programs.whole, known)]
         if parts:
+            self._known.append(known_of(parts.parts, known))
             parts.checking.look = self._programs.whole.look
         self._jobs = settings.jobs or len(os.sched_getaffinity(0))
         if settings.split:
