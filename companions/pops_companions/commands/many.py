@@ -370,7 +370,7 @@ class Solving:
             journal.close(kept=settings.report is not None or settings.journal is not None)
             raise
         except OSError as fault:
-            self._progress.say(f"cannot write: {fault.strerror}")
+            self._progress.say(f"cannot write: {command.said_of(fault)}")
         self._progress.end()
         if complete and journal.finished == len(self._tasks):
             worst = max(journal.statuses())
