@@ -33,6 +33,7 @@ _BARE = re.compile("(?:--?[a-z-]+=|-[a-z])--")
 # Longer waits are no waits: without a limit a run takes as long as it likes.
 MOST_SECONDS = 2_000_000
 MOST_JOBS = 1000
+_SECONDS = 60.0
 # Python's encodings of names in a network, not of texts.
 _OF_NAMES = ("punycode", "idna")
 # The most bytes of a text that is read as a whole.
@@ -300,6 +301,18 @@ def jobs(text: str) -> int:
     if number > MOST_JOBS:
         raise argparse.ArgumentTypeError(f"{text!r} is more than {MOST_JOBS}")
     return number
+
+
+def add_limits(parser: argparse.ArgumentParser) -> None:
+    """Adds the options for the seconds of a problem, and for how many programs run at a time."""
+    parser.add_argument(
+        "--seconds",
+        type=seconds,
+        default=_SECONDS,
+        metavar="N",
+        help=f"stop a problem after N seconds ({_SECONDS:g}); 0 is no limit",
+    )
+    parser.add_argument("-j", "--jobs", type=jobs, metavar="N", help="runs at a time")
 
 
 def _is_of_lines(encoding: str) -> bool:

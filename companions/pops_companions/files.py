@@ -112,8 +112,11 @@ def restrict(handle: int, path: str) -> None:
             os.fchmod(handle, stat.S_IMODE(os.fstat(handle).st_mode & before.st_mode))
 
 
-def try_out(unfinished: str) -> None:
-    """Makes and removes a file of this name. OSError where none can be made."""
+def try_out(unfinished: str, real: str) -> None:
+    """Makes and removes a file of this name. OSError where none can be made, or take the name of the
+    one that is to be written.
+    """
+    _kept(real)
     remove(unfinished)
     os.close(os.open(unfinished, _NEW, 0o600))
     os.unlink(unfinished)

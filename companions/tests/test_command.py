@@ -1,12 +1,14 @@
 """What all companions do alike as commands: outputs and inputs that go away or are closed."""
 
 import os
+import runpy
 import signal
 import subprocess
 import sys
 import tempfile
 import unittest
 from pathlib import Path
+from unittest import mock
 
 from tests import run_here, support
 
@@ -89,6 +91,27 @@ TO_STANDARD_OUTPUT = (
     ("pops-explain", "@input", "--fix", "@input.fixed"),
 )
 POSITIONS = b"6k1/8/6K1/8/8/8/8/R7 w - -\n" * 2_000
+
+
+class Shortage:
+    """Finds no module for want of memory."""
+
+    @staticmethod
+    def find_spec(*_: object) -> None:
+        raise MemoryError
+
+
+class Beginnings(unittest.TestCase):
+    def test_no_memory_for_the_first_module(self) -> None:
+        files = [it for it in support.COMPANIONS.iterdir() if it.is_file() and os.access(it, os.X_OK)]
+        scripts = [it for it in files if not it.name.startswith("try-")]
+        self.assertGreater(len(scripts), 10)
+        for script in scripts:
+            with self.subTest(script), mock.patch.object(sys, "meta_path", [Shortage, *sys.meta_path]):
+                with mock.patch.dict(sys.modules), self.assertRaises(SystemExit) as end:
+                    sys.modules.pop("pops_companions.start", None)
+                    runpy.run_path(str(script))
+                self.assertEqual(end.exception.code, 4)
 
 
 class Streams(unittest.TestCase):

@@ -151,6 +151,13 @@ class Several(SixProblems):
                 self.assertEqual(self.files(), ["fau lty.in", "folder"])
         self.assertFalse((self.room / "runs").exists())
 
+    def test_a_report_beside_its_file_that_cannot_be_written(self) -> None:
+        os.mkfifo(self.report)
+        outcome = self.each("--each", str(self.input))
+        said = f"pops-many: cannot write {self.report}: there is something that is no file\n"
+        self.assertEqual(outcome, (3, b"", said))
+        self.assertEqual(self.files(), ["fau lty.in", "six.report"])
+
     def test_nothing_is_written_over_an_input_or_another_file_of_the_run(self) -> None:
         report = str(self.report)
         cases = [

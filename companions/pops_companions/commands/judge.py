@@ -23,7 +23,6 @@ from pops_companions.review.sheet import Evidence, sheet
 from pops_companions.sheet.entries import boards_of
 
 NAME = "pops-judge"
-SECONDS = 60.0
 
 
 class Settings(argparse.Namespace):
@@ -60,14 +59,7 @@ def command_line() -> argparse.ArgumentParser:
     add("collection", metavar="COLLECTION", help="an input of pops")
     add("-o", "--output", metavar="SHEET", required=True, help="the sheet, an HTML page")
     add("--heading", metavar="TEXT", help="the sheet's heading (the name of the collection)")
-    add(
-        "--seconds",
-        type=command.seconds,
-        default=SECONDS,
-        metavar="N",
-        help=f"stop a problem after N seconds ({SECONDS:g}); 0 is no limit",
-    )
-    add("-j", "--jobs", type=command.jobs, metavar="N", help="runs at a time")
+    command.add_limits(parser)
     add(
         "--solutions",
         type=command.number_from_one,

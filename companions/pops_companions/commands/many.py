@@ -274,9 +274,9 @@ class Solving:
         self._programs = programs_of(settings, self._options)
         # (pops, and pops-part where it is needed)
         parts = self._programs.parts
-        programs = [self._programs.whole, *([parts.parts] if parts else [])]
-        self._known = [known_of(program, known) for program in programs]
+        self._known = [known_of(self._programs.whole, known)]
         if parts:
+            self._known.append(known_of(parts.parts, known))
             parts.checking.look = self._programs.whole.look
         self._jobs = settings.jobs or len(os.sched_getaffinity(0))
         if settings.split:
@@ -370,7 +370,7 @@ class Solving:
             journal.close(kept=settings.report is not None or settings.journal is not None)
             raise
         except OSError as fault:
-            self._progress.say(f"cannot write: {fault.strerror}")
+            self._progress.say(f"cannot write: {command.said_of(fault)}")
         self._progress.end()
         if complete and journal.finished == len(self._tasks):
             worst = max(journal.statuses())

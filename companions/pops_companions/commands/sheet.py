@@ -41,7 +41,6 @@ from pops_companions.sheet.solving import Solving
 from pops_companions.show.twins import Twin, groups
 
 NAME = "pops-sheet"
-SECONDS = 60.0
 # As far as the programs show a line without Variation: first move, defence, continuation.
 _HALF_MOVES_SHOWN = 3
 # More problems than these are counted and not named.
@@ -124,14 +123,7 @@ def _add_forms(parser: argparse.ArgumentParser) -> None:
 def _add_runs(parser: argparse.ArgumentParser) -> None:
     """Adds the options for the programs that are run."""
     add = parser.add_argument
-    add(
-        "--seconds",
-        type=command.seconds,
-        default=SECONDS,
-        metavar="N",
-        help=f"stop a problem after N seconds ({SECONDS:g}); 0 is no limit",
-    )
-    add("-j", "--jobs", type=command.jobs, metavar="N", help="runs at a time")
+    command.add_limits(parser)
     add("--pops", metavar="PROGRAM", help=LOOKED_FOR)
     add("--pops-tries", metavar="PROGRAM", help=TRIES_LOOKED_FOR)
 

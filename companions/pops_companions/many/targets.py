@@ -33,7 +33,7 @@ class Target:
         if os.path.isdir(self._real):
             raise IsADirectoryError(None, "Is a directory")
         if not self.is_device:
-            files.try_out(self._temporary)
+            files.try_out(self._temporary, self._real)
 
     @contextmanager
     def opened(self) -> Iterator[BinaryIO]:
