@@ -813,6 +813,23 @@ test('keeping: another tab\'s text stays where there is no room to keep it', () 
   kept.delete('pops.tab');
 });
 
+test('keeping: a text in work isn\'t kept again if it is kept already, is the same, is of no tab, or is none', () => {
+  forgetAll();
+  const stored = (text, tab) => {
+    for (const [name, value] of [['pops', text], ['pops.tab', tab]]) keep(name, value);
+  };
+  keepProblem(TWO_MOVES, { isLinked: true });
+  stored(TWO_MOVES, 'another');
+  storeText(TEXT);
+  assert.deepEqual(JSON.parse(kept.get('pops.kept')).map(it => it.isLinked), [true]);
+  for (const [text, tab, next] of [[TWO, 'another', TWO], [TWO, null, TEXT], [null, 'another', TEXT]]) {
+    stored(text, tab);
+    storeText(next);
+    assert.deepEqual([keptTexts(), kept.get('pops')], [[TWO_MOVES], next]);
+  }
+  forgetAll();
+});
+
 test('keeping: a text in work of another tab is kept before it is replaced', () => {
   forgetAll();
   for (const other of ['one', 'one more']) {
