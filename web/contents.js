@@ -7,7 +7,7 @@ import { companions } from './out/companions.js';
 import { givenOf } from './outputs.js';
 import { goToProblem } from './page/editing.js';
 import { blockNow, state, textNow } from './page/state.js';
-import { atOnce, inSlices } from './slices.js';
+import { atOnce, inSlices, LONG_TEXT } from './slices.js';
 import { blocksOf, CONDITIONS, fieldsOf, isShort, menOf, readProblem, sidesOf, valueOf } from './text.js';
 import { say } from './words.js';
 
@@ -73,7 +73,7 @@ function* mayContinue(text, number) {
 }
 
 /**
- * Finds step by step the group of twins that a problem belongs to, each with what changes in it; empty if it has no twins.
+ * Finds step by step the group of twins that a problem belongs to, each with what changes in it; empty if it has no twins or they are long.
  * @param {string} text
  * @param {number} number
  * @returns {Generator<void, ContentTwin[]>}
@@ -82,10 +82,11 @@ function* readTwins(text, number) {
   let [first, last] = [number, number];
   while (yield* mayContinue(text, first)) first--;
   while (yield* mayContinue(text, last + 1)) last++;
-  if (first === last) return [];
   const blocks = blocksOf(text).slice(first - 1, last);
+  const said = text.slice(blocks[0].start, blocks[blocks.length - 1].end);
+  if (first === last || said.length >= LONG_TEXT) return [];
   const contents = blocks.map(block => contentOf(text, block));
-  const given = givenOf(`BeginProblem${text.slice(blocks[0].start, blocks[blocks.length - 1].end)}\nEndProblem`);
+  const given = givenOf(`BeginProblem${said}\nEndProblem`);
   for (const { title, twins } of companions.groups(contents.map(itemOfContent), given, 'utf-8', false)) {
     const own = twins.map((/** @type {any} */ { item, label, change }) => ({ ...contents[item.number - 1], title, label, change }));
     if (own.length > 1 && own.some((/** @type {ContentTwin} */ it) => it.number === number)) return own;

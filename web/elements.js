@@ -3,6 +3,8 @@
 import { MAN_NAMES } from './men.js';
 
 const SHAPE = 'http://www.w3.org/2000/svg';
+// The most letters of a line.
+export const LONGEST_SHOWN = 5000;
 
 /**
  * Returns the element with this name. The types of those that aren't plain elements are in types.d.ts.
@@ -50,3 +52,10 @@ export function madeWith(tag, text) {
   made.textContent = text;
   return made;
 }
+
+/**
+ * Returns a text as a line of the page shows it: of a long one the beginning, since browsers lay out all letters of a line at once.
+ * @param {string} text
+ * @param {number} [most] its letters
+ */
+export const shortened = (text, most = LONGEST_SHOWN) => (text.length > most ? `${text.slice(0, most)}…` : text);

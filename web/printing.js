@@ -1,7 +1,7 @@
 // @ts-check
 // The printed sheet: the problem on the board with its solutions, twins under one diagram.
 import { contentAt, twinsOf } from './contents.js';
-import { element, madeWith } from './elements.js';
+import { element, madeWith, shortened } from './elements.js';
 import { sayDated, sayTotal } from './names.js';
 import { diagramOf } from './outputs.js';
 import { blockNow, state, textNow } from './page/state.js';
@@ -11,6 +11,8 @@ import { say } from './words.js';
 
 const MANY_LINES = 70;
 const MOST_LINES = 300;
+// The lines that are printed: some twenty pages.
+const PRINTED_LINES = 10000;
 
 export function fillPrint() {
   const { number } = blockNow() ?? { number: 0 };
@@ -22,7 +24,7 @@ export function fillPrint() {
 
 /** @param {string} tag @param {string} name @param {string} text */
 function printedPart(tag, name, text) {
-  const made = madeWith(tag, text);
+  const made = madeWith(tag, shortened(text));
   made.className = name;
   return made;
 }
@@ -52,5 +54,8 @@ function printedLines(shown) {
     return [...head, ...(item?.phases ?? []).flatMap(phase => [say(phase.kind), ...phase.lines, phase.isPossible && !phase.total ? say('beginning') : sayTotal(phase)])];
   });
   const many = lines.length > MOST_LINES ? 'most' : lines.length > MANY_LINES ? 'many' : '';
-  return printedPart('pre', many, lines.join('\n'));
+  const left = lines.length > PRINTED_LINES ? [say('more', { count: lines.length - PRINTED_LINES })] : [];
+  const made = madeWith('pre', [...lines.slice(0, PRINTED_LINES).map(line => shortened(line)), ...left].join('\n'));
+  made.className = many;
+  return made;
 }

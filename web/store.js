@@ -11,6 +11,8 @@ const MOST_UNDO_LETTERS = 1 << 25;
 // The most letters of a visit's texts for undo, and of its report.
 const MOST_STEP_LETTERS = 500000;
 const MOST_REPORT_LETTERS = 1000000;
+// More letters of a title don't come into a file's name.
+const LONGEST_TITLE = 1000;
 export const MOST_FILE_BYTES = 1 << 23;
 
 /**
@@ -111,7 +113,7 @@ export function nameOfText(text, block = blockAt(text, 0)) {
  * @param {string} ending
  */
 export function fileNameOf(title, ending) {
-  const words = (title ?? '').normalize('NFC').match(/[\p{L}\p{M}\p{N}]+/gu) ?? [];
+  const words = (title ?? '').slice(0, LONGEST_TITLE).normalize('NFC').match(/[\p{L}\p{M}\p{N}]+/gu) ?? [];
   return `${[...words.join('-')].slice(0, 60).join('') || 'pops'}.${ending}`;
 }
 

@@ -2,7 +2,7 @@
 // The solutions as rows that fold, and the walk through their moves. Rows are drawn when they are unfolded, a number at
 // a time. While a report grows, only its last rows change.
 import { comparisonOf, isComparable } from './compared.js';
-import { element, madeWith, makeButton } from './elements.js';
+import { element, madeWith, makeButton, shortened } from './elements.js';
 import { sayAsked, sayTotal } from './names.js';
 import { foundIn, labelOf, rowsOf, triesIn } from './report.js';
 import { say } from './words.js';
@@ -231,7 +231,7 @@ export class Tree {
    * @param {Item} item
    */
   growItem(box, item) {
-    box.head.textContent = [say('item', item), item.title, item.author, item.asked && sayAsked(item.asked.line), sayFound(item)].filter(Boolean).join(' · ');
+    box.head.textContent = [say('item', item), shortened(item.title ?? ''), shortened(item.author ?? ''), item.asked && sayAsked(item.asked.line), sayFound(item)].filter(Boolean).join(' · ');
     item.phases.forEach((phase, index) => {
       if (index < box.groups.length) this.growPhase(box.groups[index], phase, /** @type {SoundItem} */ (item));
       else box.append(...this.drawnPhase(phase, /** @type {SoundItem} */ (item), box));

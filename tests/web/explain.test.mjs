@@ -214,6 +214,12 @@ test('twins: of many problems with labels only those of its own group are looked
   for (const number of [4, 5, 6]) assert.deepEqual(twinsOf(text, number).map(it => it.number), [4, 5, 6]);
 });
 
+test('twins: those of a long text are not compared', () => {
+  const one = (label, letters) => `Title T ${label})\nRemark ${'x'.repeat(letters)}\nPieces White Kg6 Ra1 Black Kg8\nStipulation #1\n`;
+  const twins = letters => twinsOf(`BeginProblem\n${one('a', letters)}NextProblem\n${one('b', letters)}EndProblem\n`, 2).length;
+  assert.deepEqual([twins(40000), twins(60000)], [2, 0]);
+});
+
 test('contents: of many problems the list shows those around the one on the board, and others at equal distances', () => {
   assert.deepEqual(listedNumbers(3, 2), [1, 2, 3]);
   assert.deepEqual([0, 1, 999].map(at => listedNumbers(1000, 1)[at]), [1, 2, 1000]);

@@ -207,6 +207,28 @@ test('fields: a value goes into the text', () => {
   assert.equal(textNow(), TEXT.replace('BeginProblem\n', 'BeginProblem\nTitle A\n'));
 });
 
+test('of a title of millions of letters each line of the page shows the beginning, and its field can\'t be changed', () => {
+  const [title, long] = [1 << 20, 30000].map(it => 'x'.repeat(it));
+  const fields = ['field-Title', 'field-Author', 'field-Stipulation'].map(element);
+  const text = TEXT.replace('Pieces', `Title ${long}\nAuthor B\nPieces`).replace('#1', `#1${long}`);
+  begin(text, REPORT.replace('#1', `title: ${title}\nauthor: ${title}\n#1`));
+  assert.deepEqual(fields.map(it => it.disabled), [true, false, true]);
+  assert.ok(fields.every(it => it.value.length < 6000));
+  fillPrint();
+  for (const name of ['tree', 'report', 'print', 'fields']) assert.ok(element(name).textContent.length < 20000, `${name}: ${element(name).textContent.length}`);
+  assert.match(element('report').textContent, /^problem 1\ntitle: x+…\nauthor: x+…\n#1\n/);
+  begin(TEXT);
+  assert.deepEqual(fields.map(it => it.disabled), [false, false, false]);
+});
+
+test('printing: of hundreds of thousands of lines some twenty pages are printed', () => {
+  begin(TEXT, `problem 1\nh#1\nplay\n${'1.Kg8-h8 Ra1-a8#\n'.repeat(30000)}solutions: 30000\n\n`);
+  fillPrint();
+  const lines = element('print').children[1].textContent.split('\n');
+  assert.deepEqual([lines.length, lines.at(-1)], [10001, '20002 more']);
+  begin(TEXT);
+});
+
 test('files: a dropped text is taken', () => {
   assert.equal(typeof listenToFiles, 'function');
   begin(TEXT);
@@ -789,6 +811,23 @@ test('keeping: another tab\'s text stays where there is no room to keep it', () 
   withRoom(1000, () => storeText(TEXT));
   assert.deepEqual([kept.get('pops'), kept.get('pops.tab')], [withRemark(2000), 'another']);
   kept.delete('pops.tab');
+});
+
+test('keeping: a text in work isn\'t kept again if it is kept already, is the same, is of no tab, or is none', () => {
+  forgetAll();
+  const stored = (text, tab) => {
+    for (const [name, value] of [['pops', text], ['pops.tab', tab]]) keep(name, value);
+  };
+  keepProblem(TWO_MOVES, { isLinked: true });
+  stored(TWO_MOVES, 'another');
+  storeText(TEXT);
+  assert.deepEqual(JSON.parse(kept.get('pops.kept')).map(it => it.isLinked), [true]);
+  for (const [text, tab, next] of [[TWO, 'another', TWO], [TWO, null, TEXT], [null, 'another', TEXT]]) {
+    stored(text, tab);
+    storeText(next);
+    assert.deepEqual([keptTexts(), kept.get('pops')], [[TWO_MOVES], next]);
+  }
+  forgetAll();
 });
 
 test('keeping: a text in work of another tab is kept before it is replaced', () => {

@@ -1,6 +1,6 @@
 // @ts-check
 // The fields of the problem on the board: its names, its stipulation, its condition and its options.
-import { element } from '../elements.js';
+import { element, LONGEST_SHOWN, shortened } from '../elements.js';
 import { sayCondition } from '../names.js';
 import { partsOfStipulation, stipulationOf } from '../play.js';
 import { CONDITIONS, fieldsOf, FLAGS, isShort, valueOf, VALUES, withField } from '../text.js';
@@ -19,14 +19,16 @@ const FORMS = ['#', 's#', 'h#', '=', 's=', 'h='];
 /** @param {string} name @returns {HTMLInputElement} the field, which may be a select */
 const inputOf = name => /** @type {any} */ (element(`field-${name}`));
 
+/** Shows the fields of the problem on the board; of a value that is too long for a field only the beginning, which can't be changed there. */
 export function showFields() {
   const block = blockNow();
   const fields = block ? fieldsOf(textNow(), block) : {};
   for (const [name] of FIELDS) {
     const input = inputOf(name);
-    const said = valueOf(fields, name in fields ? name : name.toLowerCase());
-    input.disabled = !block;
-    if (name === 'Stipulation') showStipulation(said ?? '', !block);
+    const whole = valueOf(fields, name in fields ? name : name.toLowerCase());
+    const said = whole === null ? null : shortened(whole);
+    input.disabled = !block || (whole ?? '').length > LONGEST_SHOWN;
+    if (name === 'Stipulation') showStipulation(said ?? '', input.disabled);
     else if (input.type === 'checkbox') input.checked = said !== null;
     else if (name === 'Condition') input.value = CONDITIONS.find(it => said && isShort(said, it)) ?? '';
     else if (document.activeElement !== input) input.value = said ?? '';

@@ -1,6 +1,6 @@
 // @ts-check
 // Draws the report: its text, its solutions and its faults. A growing report is drawn after pauses.
-import { element } from '../elements.js';
+import { element, LONGEST_SHOWN, shortened } from '../elements.js';
 import { menOfRanks } from '../position.js';
 import { inSlices } from '../slices.js';
 import { menOf } from '../text.js';
@@ -37,9 +37,12 @@ function showReport() {
     inSight.letters = end || report.length;
     if (end) inSight.lines += 1;
   }
-  if (inSight.letters > begin) element('report').append(report.slice(begin, inSight.letters));
+  if (inSight.letters > begin) element('report').append(linesShown(report.slice(begin, inSight.letters)));
   element('moreReport').hidden = inSight.letters === report.length;
 }
+
+/** @param {string} lines */
+const linesShown = lines => (lines.length > LONGEST_SHOWN ? lines.split('\n').map(line => shortened(line)).join('\n') : lines);
 
 export function showMoreReport() {
   inSight.most += LINES_AT_ONCE;
