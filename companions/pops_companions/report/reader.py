@@ -8,6 +8,7 @@ inside a problem.
 """
 
 import io
+import re
 from collections.abc import Callable, Iterable, Iterator, Sequence
 from enum import Enum
 from sys import intern
@@ -48,6 +49,7 @@ _LINES_OF_HEAD = 14
 # same, and how many are kept.
 _LONGEST_TAIL = 512
 _MOST_TAILS = 8192
+_RANKS = re.compile("[^ \\n]{8}")
 # What a state makes of a line.
 State = Callable[[bytes], Sequence[events.Event]]
 
@@ -435,7 +437,7 @@ def _board_of(lines_of_ranks: bytes) -> items.Board:
     """Returns the board of eight lines as `8 ........`."""
     text = lines_of_ranks.decode("ascii")
     # (other boards have most ranks too)
-    return items.Board(tuple([intern(text[at : at + 8]) for at in range(2, len(text), 11)]))
+    return items.Board(tuple(map(intern, _RANKS.findall(text))))
 
 
 def read_events(reader: ReportReader, source: Iterable[bytes]) -> Iterator[events.Event]:
