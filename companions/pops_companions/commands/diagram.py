@@ -101,13 +101,7 @@ def command_line() -> argparse.ArgumentParser:
         metavar="REPORT",
         help="the report (default: standard input)",
     )
-    kinds = parser.add_mutually_exclusive_group(required=True)
-    for option, kind, said in (
-        ("--svg", "svg", "drawings as pops-page shows them"),
-        ("--png", "png", "the same as pictures; needs rsvg-convert of librsvg"),
-        ("--latex", "tex", "environments of the LaTeX package diagram, with the solutions"),
-    ):
-        kinds.add_argument(option, dest="kind", action="store_const", const=kind, help=said)
+    _add_kinds(parser)
     parser.add_argument(
         "-o",
         "--output",
@@ -128,6 +122,17 @@ def command_line() -> argparse.ArgumentParser:
     )
     command.add_encoding(parser)
     return parser
+
+
+def _add_kinds(parser: argparse.ArgumentParser) -> None:
+    """Adds the options for the kind of diagrams, of which one has to be given."""
+    kinds = parser.add_mutually_exclusive_group(required=True)
+    for option, kind, said in (
+        ("--svg", "svg", "drawings as pops-page shows them"),
+        ("--png", "png", "the same as pictures; needs rsvg-convert of librsvg"),
+        ("--latex", "tex", "environments of the LaTeX package diagram, with the solutions"),
+    ):
+        kinds.add_argument(option, dest="kind", action="store_const", const=kind, help=said)
 
 
 def arguments(words: list[str]) -> Settings:

@@ -67,31 +67,14 @@ def command_line() -> argparse.ArgumentParser:
     )
     add = parser.add_argument
     add("collection", metavar="COLLECTION", help="the file; --add makes it if it doesn't exist")
-    actions = parser.add_mutually_exclusive_group()
-    actions.add_argument(
-        "--add",
-        nargs="+",
-        metavar="FILE",
-        help="add the problems of FILEs; a FILE added again replaces its older problems",
-    )
-    actions.add_argument("--near", metavar="FILE", help="find positions near each one in FILE")
-    actions.add_argument(
-        "--play", metavar="REPORT", help="find problems with the keys and mates of a report"
-    )
+    _add_actions(parser)
     add("--report", metavar="REPORT", help="with --add of one FILE: its report, for key and mates")
     add("--author", metavar="TEXT", help="find this in authors")
     add("--title", metavar="TEXT", help="find this in titles")
     _add_sources(add)
     add("--stipulation", metavar="S", help="find this stipulation, such as h#2")
     add("--condition", metavar="C", help="find this condition")
-    add("--men", metavar="MEN", help="find positions with these men, as 'White Kg6 Black Pa7'")
-    add("--count", metavar="W+B", help="find positions by numbers of men, such as 3+4")
-    add(
-        "--fragment",
-        metavar="MEN",
-        help="find positions with these men anywhere: as they are, shifted, mirrored, turned or with"
-        " colours reversed",
-    )
+    _add_men(add)
     add(
         "--most",
         type=command.number_from_one,
@@ -102,6 +85,31 @@ def command_line() -> argparse.ArgumentParser:
     add("-o", "--output", metavar="PAGE", help="an HTML page with the diagrams of what was found")
     command.add_encoding(parser)
     return parser
+
+
+def _add_actions(parser: argparse.ArgumentParser) -> None:
+    """Adds the options of which one alone may be given."""
+    add = parser.add_mutually_exclusive_group().add_argument
+    add(
+        "--add",
+        nargs="+",
+        metavar="FILE",
+        help="add the problems of FILEs; a FILE added again replaces its older problems",
+    )
+    add("--near", metavar="FILE", help="find positions near each one in FILE")
+    add("--play", metavar="REPORT", help="find problems with the keys and mates of a report")
+
+
+def _add_men(add: Callable[..., object]) -> None:
+    """Adds the options for what stands on the board."""
+    add("--men", metavar="MEN", help="find positions with these men, as 'White Kg6 Black Pa7'")
+    add("--count", metavar="W+B", help="find positions by numbers of men, such as 3+4")
+    add(
+        "--fragment",
+        metavar="MEN",
+        help="find positions with these men anywhere: as they are, shifted, mirrored, turned or with"
+        " colours reversed",
+    )
 
 
 def _add_sources(add: Callable[..., object]) -> None:

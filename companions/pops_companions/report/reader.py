@@ -8,6 +8,7 @@ inside a problem.
 """
 
 import io
+import re
 from collections.abc import Callable, Iterable, Iterator, Sequence
 from enum import Enum
 from sys import intern
@@ -48,6 +49,7 @@ _LINES_OF_HEAD = 14
 # same, and how many are kept.
 _LONGEST_TAIL = 512
 _MOST_TAILS = 8192
+_RANKS = re.compile("[^ \\n]{8}")
 # What a state makes of a line.
 State = Callable[[bytes], Sequence[events.Event]]
 
@@ -422,7 +424,8 @@ class ReportReader:
 
     def _node(self, line: bytes, place: events.Place, least: int) -> events.NodeEvent:
         """Returns the node of a line, whose level is from `least` to one more than the level before."""
-        known = self._known_here.read_node(line.decode("latin-1"))
+        shown = line.decode("latin-1")
+        known = self._known_here.nodes.get(shown) or self._known_here.note_node(shown)
         if known is None or known.level > self._deepest_level or not least <= known.level <= self._deepest:
             raise self.refused("a move, or the number of solutions", line)
         level, text, move = known
@@ -435,7 +438,7 @@ def _board_of(lines_of_ranks: bytes) -> items.Board:
     """Returns the board of eight lines as `8 ........`."""
     text = lines_of_ranks.decode("ascii")
     # (other boards have most ranks too)
-    return items.Board(tuple([intern(text[at : at + 8]) for at in range(2, len(text), 11)]))
+    return items.Board(tuple(map(intern, _RANKS.findall(text))))
 
 
 def read_events(reader: ReportReader, source: Iterable[bytes]) -> Iterator[events.Event]:

@@ -161,10 +161,21 @@ def judged(
     play = item.phase(PhaseKind.PLAY)
     if item.unfinished is not None and (play is None or play.total is None):
         _judge_unfinished(judgement, item, play, short)
-        return judgement
-    if play is None or play.total is None:
+    elif play is None or play.total is None:
         judgement.find(Weight.OPEN, "not solved")
-        return judgement
+    else:
+        _judge_solved(judgement, item, play, short, tries)
+    return judgement
+
+
+def _judge_solved(
+    judgement: Judgement,
+    item: SoundItem,
+    play: Phase,
+    short: Optional[tuple[str, ...]],
+    tries: Optional[TriesItem],
+) -> None:
+    """Judges a problem whose play has a total."""
     _judge_number(judgement, item.stipulation, play)
     _judge_keys(judgement, item.stipulation, play)
     _judge_short_solutions(judgement, item.stipulation, play, short)
@@ -181,7 +192,6 @@ def judged(
         judgement.keywords = mates_in(item, item.board.letters)
     if judgement.keywords:
         judgement.find(Weight.NOTE, f"all mates: {', '.join(judgement.keywords)}")
-    return judgement
 
 
 class KeptJudgements:
