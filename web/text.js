@@ -543,7 +543,7 @@ function valuePut([own, first], said) {
 }
 
 /**
- * Lists the words of an option that go, with their commands: those of the same option before it; the other words of its value, if another one
+ * Lists the words of an option that go, with their commands: earlier words of the same option; other words of its value, if another one
  * is set, or else all its words.
  * @param {Field | undefined} found
  * @param {boolean} isSet

@@ -385,7 +385,7 @@ export class Tree {
   }
 
   /**
-   * Gives rows their places in the tree, those of a phase among all of it.
+   * Gives rows their places in the tree; rows of a phase have theirs among all rows.
    * @param {Row[]} rows
    * @param {Row | null} parent
    * @param {Group} group
