@@ -9,7 +9,7 @@ import { atOnce, LONG_TEXT } from './slices.js';
 const MAN_WORD = new RegExp(`^[${KINDS}]([a-h][1-8])+$`, 'i');
 const TEXT_FIELDS = ['title', 'author', 'origin'];
 const TEXT_LINES = ['title', 'author', 'origin', 'remark'];
-// Those that belong to one problem alone.
+// The lines that belong to one problem alone.
 const CLEARED_LINES = ['title', 'origin', 'remark'];
 const COMMANDS = ['beginproblem', 'pieces', 'stipulation', 'condition', 'option', 'nextproblem', 'endproblem',
   ...TEXT_LINES];

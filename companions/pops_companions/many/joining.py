@@ -53,6 +53,7 @@ class Joined:
         self.in_parts: Callable[[int], Optional[tuple[bytes, str]]] = lambda place: None
         # Whether files wait for `write_held`: other machines say only at the end what they had.
         self.holds_files = False
+        self._held: list[Report] = []
         # Raises what keeps a report from being written to its file.
         self.refuse: Callable[[], None] = lambda: None
 
@@ -71,15 +72,14 @@ class Joined:
         # (a report that lacks a task is never complete, so that the journal stays)
         if self._unsettled[id(report)] == 0 and self._is_settled(report):
             if report.file is not None and self.holds_files:
-                return
-            self._close(report)
+                self._held.append(report)
+            else:
+                self._close(report)
 
     def write_held(self) -> None:
         """Writes the files that were held back."""
-        self.holds_files = False
-        for report in self._reports:
-            if id(report) in self._to_write and self._is_settled(report):
-                self._close(report)
+        while self._held:
+            self._close(self._held.pop(0))
 
     def _close(self, report: Report) -> None:
         """Writes the file of a report, where it has one: nothing of the report is left to write."""
