@@ -2,6 +2,7 @@
 
 import argparse
 import codecs
+import errno
 import gc
 import io
 import os
@@ -424,6 +425,21 @@ def refuse_shared(read: Sequence[str], written: Sequence[Optional[str]]) -> None
             raise CommandError(Status.USAGE, f"{path} is named twice")
         if os.path.isfile(real) or not os.path.exists(real):
             taken.add(real)
+
+
+def try_out(file: Optional[str]) -> None:
+    """Refuses an output that can't be written, before anything is run for it."""
+    if file is None:
+        return
+    _refuse_read(file)
+    real = os.path.realpath(file)
+    try:
+        if os.path.isdir(real):
+            raise IsADirectoryError(errno.EISDIR, os.strerror(errno.EISDIR))
+        if not files.is_device(file):
+            files.try_out(f"{real}.{os.urandom(6).hex()}", real)
+    except OSError as error:
+        raise CommandError(Status.DEVICE, f"cannot write {file}: {error.strerror}") from None
 
 
 @contextmanager

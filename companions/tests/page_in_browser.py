@@ -92,7 +92,7 @@ class Page:
 
 
 def entered(page: Page) -> None:
-    """A mate in two set by mouse, one man by touch, one by key; moved, taken back; solved and walked through."""
+    """A mate in two set by mouse, one man by touch, one by key; moved, taken back."""
     browser = page.browser
     browser.size(1280, 800)
     page.open("BeginProblem\nStipulation #2\nOption Variation\nEndProblem\n")
@@ -113,6 +113,12 @@ def entered(page: Page) -> None:
     browser.touch("#h7")
     page.holds("Qh7" in page.text(), f"moved by touch: {page.text()}")
     browser.click("#undo")
+    walked_through(page)
+
+
+def walked_through(page: Page) -> None:
+    """It is solved and walked through."""
+    browser = page.browser
     page.solve()
     page.holds("1.Qh8-b2" in page.told("tree"), "the key is shown")
     page.holds("Ke1-d1" not in page.told("tree"), "the tree begins folded")

@@ -160,6 +160,10 @@ class Ended(support.InRoom):
                 Runs("program", [script]).outcome([], b"")
             self.assertEqual(Runs("pops", [support.pops()]).outcome([], b"").status, 1)
         self.assertFalse((self.room / "begun").exists())
+        with mock.patch("os.listdir", side_effect=FileNotFoundError):
+            child = self.begun("exec sleep 1800", as_script=False)
+            child.end()
+        self.assertEqual(child.run.returncode, -signal.SIGKILL)
 
     def test_what_is_in_a_pipe_that_is_open(self) -> None:
         reading, writing = os.pipe()

@@ -259,22 +259,8 @@ class Duplex(unittest.TestCase):
         self.assertEqual(titles, ["Both sides", "Both sides duplex"])
 
 
-@support.needs_module("yaml")
-class Yaml(unittest.TestCase):
-    def test_the_keys(self) -> None:
-        text = run_here.companion("pops-import", text=TWINS).output
-        (document,) = documents(exported("yaml", text=text))
-        node = document.node()
-        assert isinstance(node, dict)
-        self.assertEqual(node["authors"], ["Loyd, Samuel", "Solver, Bert"])
-        self.assertEqual(node["algebraic"], {"white": ["Kg6", "Ra1"], "black": ["Kh8"]})
-        self.assertEqual(node["options"], ["SetPlay", "MaxSolutions 5"])
-        self.assertEqual((node["stipulation"], node["intended-solutions"]), ("h#1", "2"))
-        self.assertEqual(node["comments"], ['a note: "one" \\ two'])
-
-    def test_nothing_that_has_a_key_becomes_a_comment(self) -> None:
-        """As YACPDB has a problem; the second time nothing changes."""
-        yaml = b"""---
+# A problem with all keys that are known, and what is exported of it.
+ALL_KEYS = b"""---
 id: 331234
 authors: ["Loyd, Samuel", "A. Muster & Roe, Bert"]
 source: {name: Die Schwalbe, volume: 12, issue: 3, problemid: 1234}
@@ -302,39 +288,56 @@ solution: |2
 
   b) none
 """
-        given = run_here.companion("pops-import", text=yaml)
+KEPT_KEYS = {
+    "id": "331234",
+    "authors": ["Loyd, Samuel", "A. Muster", "Roe, Bert"],
+    "source": {
+        "name": "Die Schwalbe",
+        "problemid": "1234",
+        "volume": "12",
+        "issue": "3",
+    },
+    "date": "1977-08-09",
+    "award": {"tourney": {"name": "Jubilee"}, "distinction": "1st Prize"},
+    "distinction": "Prize",
+    "keywords": ["Grimshaw"],
+    "source-id": "12a",
+    "issue-id": "12/1977",
+    "volume": "3",
+    "issue": "7",
+    "round": "2",
+    "tourney": "Informal 1977",
+    "judges": ["Roe", "Muster, A."],
+    "algebraic": {"white": ["Kg6", "Ra1"], "black": ["Kh8"]},
+    "stipulation": "h#1",
+    "intended-solutions": "2.1",
+    "comments": ["Note: a version"],
+    "solution": "   1.Kh8-g8 Ra1-a8 #\n\nb) none",
+}
+
+
+@support.needs_module("yaml")
+class Yaml(unittest.TestCase):
+    def test_the_keys(self) -> None:
+        text = run_here.companion("pops-import", text=TWINS).output
+        (document,) = documents(exported("yaml", text=text))
+        node = document.node()
+        assert isinstance(node, dict)
+        self.assertEqual(node["authors"], ["Loyd, Samuel", "Solver, Bert"])
+        self.assertEqual(node["algebraic"], {"white": ["Kg6", "Ra1"], "black": ["Kh8"]})
+        self.assertEqual(node["options"], ["SetPlay", "MaxSolutions 5"])
+        self.assertEqual((node["stipulation"], node["intended-solutions"]), ("h#1", "2"))
+        self.assertEqual(node["comments"], ['a note: "one" \\ two'])
+
+    def test_nothing_that_has_a_key_becomes_a_comment(self) -> None:
+        """As YACPDB has a problem; the second time nothing changes."""
+        given = run_here.companion("pops-import", text=ALL_KEYS)
         self.assertEqual((given.status, given.error), (0, ""))
         text = exported("yaml", text=given.output)
         (document,) = documents(text)
         node = document.node()
         assert isinstance(node, dict)
-        wanted = {
-            "id": "331234",
-            "authors": ["Loyd, Samuel", "A. Muster", "Roe, Bert"],
-            "source": {
-                "name": "Die Schwalbe",
-                "problemid": "1234",
-                "volume": "12",
-                "issue": "3",
-            },
-            "date": "1977-08-09",
-            "award": {"tourney": {"name": "Jubilee"}, "distinction": "1st Prize"},
-            "distinction": "Prize",
-            "keywords": ["Grimshaw"],
-            "source-id": "12a",
-            "issue-id": "12/1977",
-            "volume": "3",
-            "issue": "7",
-            "round": "2",
-            "tourney": "Informal 1977",
-            "judges": ["Roe", "Muster, A."],
-            "algebraic": {"white": ["Kg6", "Ra1"], "black": ["Kh8"]},
-            "stipulation": "h#1",
-            "intended-solutions": "2.1",
-            "comments": ["Note: a version"],
-            "solution": "   1.Kh8-g8 Ra1-a8 #\n\nb) none",
-        }
-        self.assertEqual(node, wanted)
+        self.assertEqual(node, KEPT_KEYS)
         back = run_here.companion("pops-import", text=text.encode())
         self.assertEqual(exported("yaml", text=back.output), text)
 

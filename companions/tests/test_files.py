@@ -2,6 +2,7 @@
 
 import os
 import struct
+import subprocess
 import sys
 import unittest
 from unittest import mock
@@ -16,6 +17,17 @@ _ENTRIES = [
     (0x01, 6, _NOBODY), (0x02, 4, 12345), (0x04, 0, _NOBODY), (0x10, 4, _NOBODY), (0x20, 4, _NOBODY)
 ]  # fmt: skip
 _LISTED = struct.pack("<I", 2) + b"".join(struct.pack("<HHI", *entry) for entry in _ENTRIES)
+
+
+class Page(support.InRoom):
+    def test_a_page_to_an_open_file(self) -> None:
+        """What the file has stays."""
+        log, words = self.room / "log", "from runpy import run_path; run_path({!r})['write']('/dev/stdout', 'page')"
+        log.write_bytes(b"old\n")
+        with log.open("ab") as output:
+            program = [sys.executable, "-B", "-c", words.format(str(support.REPOSITORY / "page"))]
+            subprocess.run(program, stdout=output, check=True)
+        self.assertEqual(log.read_bytes(), b"old\npage")
 
 
 class Readers(support.InRoom):

@@ -524,6 +524,13 @@ class Command(support.InRoom):
                 os.unlink(name)
         self.assertEqual(target.read_bytes(), b"others")
 
+    def test_a_collection_that_is_no_file(self) -> None:
+        os.mkfifo(self.path)
+        for path in (self.path, "/dev/stdout", "/dev/null", str(self.room)):
+            outcome = run_here.companion("pops-find", path, "--add", str(self.examples / "morphy_1856.pop"))
+            self.assertEqual((outcome.status, outcome.output), (3, b""))
+            self.assertEqual(outcome.error, f"pops-find: cannot open {path}: a collection is a file\n")
+
     def test_a_path_of_two_slashes(self) -> None:
         problem = Path(self.path).with_name("one.pop")
         problem.write_bytes(b"BeginProblem Pieces White Kg6 Ra1 Black Kg8 Stipulation #1 EndProblem\n")

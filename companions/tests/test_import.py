@@ -437,6 +437,49 @@ class Options(unittest.TestCase):
                     self.assertEqual(re.findall("^Option (.+)$", made, re.M), wanted)
 
 
+# Texts in YAML, and what they hold.
+VALUES = [
+    ("a: b", {"a": "b"}),
+    ("a: b # c", {"a": "b"}),
+    ("a: b#c", {"a": "b#c"}),
+    ("a: #b", {"a": None}),
+    ("a: '#b'", {"a": "#b"}),
+    ("a: ~\nb: null\nc:\nd: ''", {"a": None, "b": None, "c": None, "d": ""}),
+    ("a: 'it''s'", {"a": "it's"}),
+    (r'a: "\"\\\n\t\x41\u00e9\U0001F600\/"', {"a": '"\\\n\tAé\U0001f600/'}),
+    (r'a: "\uD83D\uDE00"', {"a": "\U0001f600"}),
+    ("a: http://b.c/d", {"a": "http://b.c/d"}),
+    ("a:b: c", {"a:b": "c"}),
+    ("\"a b\": c\n'd: e': f", {"a b": "c", "d: e": "f"}),
+    ("a:\n- b\n- c\nd: e", {"a": ["b", "c"], "d": "e"}),
+    ("a:\n  - b\n  -\n    c\n  -\nd: e", {"a": ["b", "c", None], "d": "e"}),
+    ("- a: b\n  c: d\n- e: f", [{"a": "b", "c": "d"}, {"e": "f"}]),
+    ("- - a\n  - b\n- c", [["a", "b"], "c"]),
+    ("a:\n  b:\n    c: d\n  e: f\ng: h", {"a": {"b": {"c": "d"}, "e": "f"}, "g": "h"}),
+    ("a: [b, 'c, d', [e], {f: g}]", {"a": ["b", "c, d", ["e"], {"f": "g"}]}),
+    ("a: [b,\n  c, # d\n  e,\n  ]\nf: g", {"a": ["b", "c", "e"], "f": "g"}),
+    ("a: []\nb: {}", {"a": [], "b": {}}),
+    ("{a: b, c: [d], e: , f}", {"a": "b", "c": ["d"], "e": None, "f": None}),
+    ("{'a':b, \"c\": d}", {"a": "b", "c": "d"}),
+    ("a: b\n  c\n\n  d\ne: f", {"a": "b c\nd", "e": "f"}),
+    ("a: 'b\n  c\n\n  d'", {"a": "b c\nd"}),
+    ('a: "b\n  c \\\n  d"', {"a": "b c d"}),
+    ("a: |\n  b\n    c\n\n  d\ne: f", {"a": "b\n  c\n\nd", "e": "f"}),
+    ("a: |-\n  # b\n  c: d\n", {"a": "# b\nc: d"}),
+    ("a: |2\n    b\n  c", {"a": "  b\nc"}),
+    ("a: |+2\n    b\n", {"a": "  b"}),
+    ("a: >\n  b\n  c\n\n  d\n", {"a": "b c\nd"}),
+    ("a: |\nb: c", {"a": "", "b": "c"}),
+    ("- |\n a\n- b", ["a", "b"]),
+    ("a: !!str b\nc: !x\n  - d", {"a": "b", "c": ["d"]}),
+    ("# a\n\na: b\n  # c\nd: e", {"a": "b", "d": "e"}),
+    ("a: -b\n-c: d", {"a": "-b", "-c": "d"}),
+    ("a: [x y, +]", {"a": ["x y", "+"]}),
+    ("a text\nof two lines", "a text of two lines"),
+    ("- a\n- b", ["a", "b"]),
+]
+
+
 class Yaml(unittest.TestCase):
     """The part of YAML that is read, by the definitions of YAML 1.2."""
 
@@ -445,46 +488,7 @@ class Yaml(unittest.TestCase):
         return document.node()
 
     def test_values(self) -> None:
-        for text, wanted in [
-            ("a: b", {"a": "b"}),
-            ("a: b # c", {"a": "b"}),
-            ("a: b#c", {"a": "b#c"}),
-            ("a: #b", {"a": None}),
-            ("a: '#b'", {"a": "#b"}),
-            ("a: ~\nb: null\nc:\nd: ''", {"a": None, "b": None, "c": None, "d": ""}),
-            ("a: 'it''s'", {"a": "it's"}),
-            (r'a: "\"\\\n\t\x41\u00e9\U0001F600\/"', {"a": '"\\\n\tAé\U0001f600/'}),
-            (r'a: "\uD83D\uDE00"', {"a": "\U0001f600"}),
-            ("a: http://b.c/d", {"a": "http://b.c/d"}),
-            ("a:b: c", {"a:b": "c"}),
-            ("\"a b\": c\n'd: e': f", {"a b": "c", "d: e": "f"}),
-            ("a:\n- b\n- c\nd: e", {"a": ["b", "c"], "d": "e"}),
-            ("a:\n  - b\n  -\n    c\n  -\nd: e", {"a": ["b", "c", None], "d": "e"}),
-            ("- a: b\n  c: d\n- e: f", [{"a": "b", "c": "d"}, {"e": "f"}]),
-            ("- - a\n  - b\n- c", [["a", "b"], "c"]),
-            ("a:\n  b:\n    c: d\n  e: f\ng: h", {"a": {"b": {"c": "d"}, "e": "f"}, "g": "h"}),
-            ("a: [b, 'c, d', [e], {f: g}]", {"a": ["b", "c, d", ["e"], {"f": "g"}]}),
-            ("a: [b,\n  c, # d\n  e,\n  ]\nf: g", {"a": ["b", "c", "e"], "f": "g"}),
-            ("a: []\nb: {}", {"a": [], "b": {}}),
-            ("{a: b, c: [d], e: , f}", {"a": "b", "c": ["d"], "e": None, "f": None}),
-            ("{'a':b, \"c\": d}", {"a": "b", "c": "d"}),
-            ("a: b\n  c\n\n  d\ne: f", {"a": "b c\nd", "e": "f"}),
-            ("a: 'b\n  c\n\n  d'", {"a": "b c\nd"}),
-            ('a: "b\n  c \\\n  d"', {"a": "b c d"}),
-            ("a: |\n  b\n    c\n\n  d\ne: f", {"a": "b\n  c\n\nd", "e": "f"}),
-            ("a: |-\n  # b\n  c: d\n", {"a": "# b\nc: d"}),
-            ("a: |2\n    b\n  c", {"a": "  b\nc"}),
-            ("a: |+2\n    b\n", {"a": "  b"}),
-            ("a: >\n  b\n  c\n\n  d\n", {"a": "b c\nd"}),
-            ("a: |\nb: c", {"a": "", "b": "c"}),
-            ("- |\n a\n- b", ["a", "b"]),
-            ("a: !!str b\nc: !x\n  - d", {"a": "b", "c": ["d"]}),
-            ("# a\n\na: b\n  # c\nd: e", {"a": "b", "d": "e"}),
-            ("a: -b\n-c: d", {"a": "-b", "-c": "d"}),
-            ("a: [x y, +]", {"a": ["x y", "+"]}),
-            ("a text\nof two lines", "a text of two lines"),
-            ("- a\n- b", ["a", "b"]),
-        ]:
+        for text, wanted in VALUES:
             with self.subTest(text):
                 self.assertEqual(self.value(text), wanted)
 

@@ -24,6 +24,23 @@ def objects(report: bytes, *words: str) -> list[dict[str, Any]]:
     return [json.loads(line) for line in lines]
 
 
+# A capture in passing that mates, in Circe.
+MOVE = {
+    "text": "e5*d6 ep.[+bPd7]#",
+    "half": 1,
+    "side": "white",
+    "man": "pawn",
+    "from": "e5",
+    "to": "d6",
+    "capture": True,
+    "en_passant": True,
+    "castling": None,
+    "promotion": None,
+    "rebirth": {"square": "d7", "colour": "black", "man": "pawn"},
+    "mark": "mate",
+}
+
+
 class Reports(unittest.TestCase):
     def test_every_stored_report_can_be_written_anew(self) -> None:
         report = b"".join(path.read_bytes() for path in support.stored_reports())
@@ -90,20 +107,6 @@ class Reports(unittest.TestCase):
         stipulation = {"text": "#1", "play": "direct", "goal": "mate", "moves": 1, "half_moves": 1}
         self.assertEqual(one["stipulation"], stipulation)
         self.assertEqual(one["condition"], "Circe")
-        move = {
-            "text": "e5*d6 ep.[+bPd7]#",
-            "half": 1,
-            "side": "white",
-            "man": "pawn",
-            "from": "e5",
-            "to": "d6",
-            "capture": True,
-            "en_passant": True,
-            "castling": None,
-            "promotion": None,
-            "rebirth": {"square": "d7", "colour": "black", "man": "pawn"},
-            "mark": "mate",
-        }
         self.assertEqual(
             one["phases"],
             [
@@ -112,7 +115,7 @@ class Reports(unittest.TestCase):
                     "possible": True,
                     "count": 1,
                     "stopped": True,
-                    "solutions": [{"text": "1.e5*d6 ep.[+bPd7]#", "move": move, "below": []}],
+                    "solutions": [{"text": "1.e5*d6 ep.[+bPd7]#", "move": MOVE, "below": []}],
                 }
             ],
         )

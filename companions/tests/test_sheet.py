@@ -887,6 +887,21 @@ class Command(Case):
         latex = self.sheet(TWINS, "--to", "latex", "--report", str(report)).output
         self.assertIn(b"\\end{document}", latex)
 
+    def test_a_sheet_that_cannot_be_written_is_told_first(self) -> None:
+        """Nothing is solved for it."""
+        pops = self.write_program("pops", f"#!/bin/sh\ntouch '{self.room}/begun'\nexit 9\n")
+        (self.room / "folder").mkdir()
+        for name, said in (
+            ("nowhere/sheet", "cannot write {}: No such file or directory"),
+            ("folder", "cannot write {}: Is a directory"),
+            ("given.pop", "{} is named twice"),
+        ):
+            path = str(self.room / name)
+            outcome = self.made(TWINS, "-o", path, "--pops", pops)
+            self.assertIn((outcome.status, outcome.output), ((2, b""), (3, b"")))
+            self.assertEqual(outcome.error, f"pops-sheet: {said.format(path)}\n")
+        self.assertFalse((self.room / "begun").exists())
+
     def test_seconds(self) -> None:
         """What takes too long is shown as far as it went, and says so; the others are whole."""
         long = "Pieces White Kb1 Pc2e2g2 Black Ke8 Ra8h8 Pa7c7e7g7h7\nStipulation h#7\n"

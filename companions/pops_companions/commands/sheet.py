@@ -367,6 +367,7 @@ def pdf_of(page: str) -> bytes:
 def sheet(settings: Settings) -> Status:
     """Writes the sheet."""
     texts = Texts(settings)
+    command.try_out(settings.output)
     given, boards = given_problems(texts.input), boards_of(texts.input)
     items = texts.items()
     warn_of_rest(NAME, settings.input, texts.input)

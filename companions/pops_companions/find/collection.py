@@ -16,6 +16,7 @@ from dataclasses import astuple, dataclass, field, fields
 from typing import Any, NamedTuple, NoReturn, Optional
 
 from pops_companions.chess.men import Man, Square
+from pops_companions.files import is_device
 from pops_companions.find.boards import (
     EMPTY,
     LETTERS,
@@ -124,6 +125,8 @@ class Collection:
         if not new and not os.path.exists(path):
             reason = os.strerror(errno.ENOENT)
             raise CollectionError(f"cannot open {path}: {reason}: --add makes a collection")
+        if is_device(path):
+            raise CollectionError(f"cannot open {path}: a collection is a file")
         _refuse_foreign(path)
         # (what a killed run left half written is taken back where the file may be written)
         mode = "rwc" if new else "rw" if os.access(path, os.W_OK) else "ro"

@@ -53,7 +53,6 @@ class Joined:
         self.in_parts: Callable[[int], Optional[tuple[bytes, str]]] = lambda place: None
         # Whether files wait for `write_held`: other machines say only at the end what they had.
         self.holds_files = False
-        self._held: list[Report] = []
         # Raises what keeps a report from being written to its file.
         self.refuse: Callable[[], None] = lambda: None
 
@@ -69,17 +68,15 @@ class Joined:
         self._unsettled[id(report)] -= tasks
         if report.file is None:
             self._stream(report)
-        # (a report that lacks a task is never complete, so that the journal stays)
-        if self._unsettled[id(report)] == 0 and self._is_settled(report):
-            if report.file is not None and self.holds_files:
-                self._held.append(report)
-            else:
-                self._close(report)
+        if self._is_due(report) and not (report.file is not None and self.holds_files):
+            self._close(report)
 
     def write_held(self) -> None:
         """Writes the files that were held back."""
-        while self._held:
-            self._close(self._held.pop(0))
+        self.holds_files = False
+        for report in self._reports:
+            if id(report) in self._to_write and self._is_due(report):
+                self._close(report)
 
     def _close(self, report: Report) -> None:
         """Writes the file of a report, where it has one: nothing of the report is left to write."""
@@ -87,8 +84,10 @@ class Joined:
             self._write(report, report.file)
         self._to_write.remove(id(report))
 
-    def _is_settled(self, report: Report) -> bool:
-        return all(map(self._journal.is_settled, report.tasks.places))
+    def _is_due(self, report: Report) -> bool:
+        # (a report that lacks a task is never complete, so that the journal stays)
+        is_counted = self._unsettled[id(report)] == 0
+        return is_counted and all(map(self._journal.is_settled, report.tasks.places))
 
     def _stream(self, report: Report) -> None:
         before = self._streamed

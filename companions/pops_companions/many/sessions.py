@@ -58,7 +58,10 @@ def _parent(process: int) -> int:
 
 
 def _processes() -> list[int]:
-    return [int(name) for name in os.listdir("/proc") if name.isdigit()]
+    """Returns all processes, or none where the system doesn't list them."""
+    with suppress(FileNotFoundError):
+        return [int(name) for name in os.listdir("/proc") if name.isdigit()]
+    return []
 
 
 def has_children(process: int) -> bool:
