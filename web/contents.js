@@ -12,9 +12,9 @@ import { blocksOf, CONDITIONS, fieldsOf, isShort, menOf, readProblem, sidesOf, v
 import { say } from './words.js';
 
 const LONGEST_NAME = 60;
-// Of more problems the list shows some, since browsers lay out all entries of a list at once: so many on each side of the one on the board,
-// and at most so many others, at equal distances.
+// The list shows all problems up to this number. From more it chooses some, since browsers lay out all entries of a list at once.
 const MOST_LISTED = 1000;
+// The problems that are listed on each side of the one on the board, and the most others, at equal distances.
 const LISTED_BESIDE = 200;
 const MOST_OTHERS = 500;
 // What is beside stays the same until another hundred is nearer.

@@ -241,7 +241,7 @@ function madeRows(given, span, above) {
 }
 
 /**
- * Makes a row; the rows below it are those of some of its lines.
+ * Makes a row; the rows below it are made of some of its lines.
  * @param {RowsGiven} given
  * @param {{ moves: Move[], path: Move[], level: number, from: number, to: number, word?: string }} said
  * @param {Span} lines
@@ -254,7 +254,7 @@ function rowWith(given, said, lines) {
 }
 
 /**
- * Makes the rows of lines of battle play: of those of one level, each with the lines that continue it.
+ * Makes the rows of lines of battle play: one for each line of a level, with the lines that continue it.
  * @param {RowsGiven} given
  * @param {Span} span
  * @param {{ level: number, path: Move[] }} above
@@ -291,7 +291,7 @@ function commonLength(solutions, { from, to }, start) {
 }
 
 /**
- * Makes the rows of lines of help play: of those that go on with one move, with the moves that they share.
+ * Makes the rows of lines of help play: one for the lines that go on with the same move, with the moves that they share.
  * @param {RowsGiven} given
  * @param {Span} span
  * @param {{ level: number, path: Move[] }} above

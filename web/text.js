@@ -9,7 +9,7 @@ import { atOnce, LONG_TEXT } from './slices.js';
 const MAN_WORD = new RegExp(`^[${KINDS}]([a-h][1-8])+$`, 'i');
 const TEXT_FIELDS = ['title', 'author', 'origin'];
 const TEXT_LINES = ['title', 'author', 'origin', 'remark'];
-// The lines that belong to one problem alone.
+// The text lines that belong to one problem alone.
 const CLEARED_LINES = ['title', 'origin', 'remark'];
 const COMMANDS = ['beginproblem', 'pieces', 'stipulation', 'condition', 'option', 'nextproblem', 'endproblem',
   ...TEXT_LINES];
@@ -543,8 +543,8 @@ function valuePut([own, first], said) {
 }
 
 /**
- * Lists the words of an option that go, with their commands: earlier words of the same option; other words of its value, if another one
- * is set, or else all its words.
+ * Lists the words of an option that go, with their commands: all of the same option before it; if its value is set, the other words of this
+ * value, or else all its words.
  * @param {Field | undefined} found
  * @param {boolean} isSet
  */

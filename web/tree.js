@@ -385,7 +385,7 @@ export class Tree {
   }
 
   /**
-   * Gives rows their places in the tree; rows of a phase have theirs among all rows.
+   * Gives rows their places in the tree; the top rows of a phase are all beside each other.
    * @param {Row[]} rows
    * @param {Row | null} parent
    * @param {Group} group
