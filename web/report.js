@@ -219,7 +219,7 @@ export const labelOf = move => move.label.replace(/^([0-9]+\.+)?/, (Math.floor((
  * the same beginning share its rows.
  * @param {Phase} phase
  * @param {boolean} isHelp
- * @param {{ from?: number, made?: (rows: Row[], above: Row | null) => void }} [more] the first line, which begins a row; what receives each
+ * @param {{ from?: number, made?: (rows: Row[], above: Row | null) => void }} more the first line, which begins a row; what receives each
  *   list of rows that is made, with the row above it
  */
 export function rowsOf({ solutions }, isHelp, { from = 0, made = () => {} } = {}) {
