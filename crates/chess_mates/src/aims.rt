@@ -87,7 +87,7 @@ impl MoveTest for Aimed {
 
     ghost fits = { λ s rule p. IsKnownIn rule p s.masks };
 
-    #[tactic(auto, using(chess_rules::proofs::listing_moves::Filtering::wanted_origins))]
+    #[tactic(auto, using(chess_rules::proofs::Filtering::wanted_origins))]
     fn origins<R: Rules>(&self, board: &Board) -> Squares {
         self.masks.origins::<R>(board)
     }

@@ -4,7 +4,7 @@ use Rattle.std.specs.Prelude.{◌/◌, ◌||◌, ◌&&◌, not}
 use Rattle.chess_core.specs.Position.{is_fairy, same_kind}
 use Rattle.chess_core.specs.Squares.{file_of, square_at}
 use Rattle.chess_rules.proofs.Chess.{square_at-is}
-use Rattle.chess_rules.proofs.making_moves.Stays.{rebirth_small}
+use Rattle.chess_rules.proofs.Stays.{rebirth_small}
 use Rattle.chess_rules.specs.Legal.{last_rank, second_rank}
 use Rattle.chess_rules.specs.Play.{is_light}
 unfoldable use Rattle.chess_rules.specs.Play.{rebirth}

@@ -90,7 +90,7 @@ pub(crate) fn remove_at(board: &mut Board, square: Option<Square>)
 // Carries out the move on the board, rebirth apart: moves the man, removes the captured man, and in
 // castling moves the rook.
 #[inline(always)]
-#[tactic(auto, using(crate::proofs::making_moves::Plays::capture_clears), unfolding(crate::specs::Play::moved_men))]
+#[tactic(auto, using(crate::proofs::Plays::capture_clears), unfolding(crate::specs::Play::moved_men))]
 fn move_men(board: &mut Board, man: Man, m: Move, captured: Option<Square>)
     requires moves { CanMove board.old man m }
     requires captured { captured ≡ capture_square board.old man m }

@@ -1,5 +1,5 @@
 use Rattle.chess_rules.proofs.Chess.{Move, ap, rules, sym, ◌∙◌}
-use Rattle.chess_rules.proofs.making_moves.Returns.{can_take_off, restores}
+use Rattle.chess_rules.proofs.Returns.{can_take_off, restores}
 use Rattle.chess_rules.proofs.making_moves.undoing.take_back.Goals as goal
 
 pub take_reborn_off-requires : goal.take_reborn_off-requires

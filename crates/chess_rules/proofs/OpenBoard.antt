@@ -1,7 +1,7 @@
 -- To each square where a man may go, it could go on some board: `unblocked_reach` and
 -- `unblocked_targets` miss no square.
 use Rattle.chess_rules.proofs.Chess.{Bool, King, Man, Pawn, Position, and_parts, arith, bit_at, bit_or, cond-false, cond-true, false, false≢true, is_advance, may_arrive, AreReached, on_left, on_right, or_cases, reaches_as, rules, same_kind, steps_to, true, word, word_has, ℕ, ◌&&◌, ◌<◌, ◌==◌, ◌||◌, ◌≡◌}
-use Rattle.chess_rules.proofs.listing_moves.Arrivals.{no_steps}
+use Rattle.chess_rules.proofs.Arrivals.{no_steps}
 
 -- a pawn steps one square or two
 pub advances : (v one two rank free : Bool) → (v && (one || (rank && two && free))) ≡ true → (one || two) ≡ true

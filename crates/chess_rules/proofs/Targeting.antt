@@ -1,6 +1,6 @@
 -- Arrival squares: walking from one to the next misses no move.
 use Rattle.chess_rules.proofs.Chess.{Bool, IsAimed, HasNoMoveFrom, IsFirst, NamesMove, Kind, King, List, Man, Move, None, Option, Pawn, Position, RuleSet, Some, agree_below_at, along, and_from, and_parts, ap, arith, bit_at, bit_not, can_castle, cases_Bool, cond-false, cond-true, false, file_of, find, find_first, find_no, is_advance, is_arrival, is_castling, is_of_colour, is_promoting, is_promotion_right, is_pseudo_legal, is_pseudo_legal_of, is_some, is_square, is_two_files_aside, man_on, may_castle, may_arrive, or_left, or_right, per_arrival, per_origin, promotion_at, range_with_len, rank_of, reaches, reaches_as, refl, rules, same_colour-refl, same_kind, square_at, squares_same, steps_to, sym, true, w64, word, word_empty, ℕ, ◌%◌, ◌*◌, ◌+◌, ◌-◌, ◌/◌, ◌<◌, ◌==◌, ◌∙◌, ◌≡◌, ◌≤◌, not}
-use Rattle.chess_rules.proofs.making_moves.Pseudo.{made}
+use Rattle.chess_rules.proofs.Pseudo.{made}
 use Rattle.std.proofs.Math.Bool.{beq}
 
 -- the words of a pawn's steps, of a king's in castling, and of the others

@@ -2,7 +2,7 @@
 use Rattle.chess_rules.proofs.Chess.{AreCandidates, AreEvasionsFrom, AreOrigins, Bool, NoneMeet, IsAimed, HasNoMoveFrom, NamesMove, Move, None, Pawn, Position, RuleSet, all_triples, and_parts, and_right, ap, arith, bit_and, bit_at, bit_at-lt, bit_at_and, cases_Bool, cases_eq, cases_lt, eq-eqb, eqb-true, false, false≢true, is_arrival, is_legal, is_legal-idle, is_man, is_pseudo_legal, is_some, man_on, not, meets_on, per_arrival, per_origin, promotion_at, refl, rules, side_of, triple_at, true, word, word_has, ℕ, ◌%◌, ◌&&◌, ◌*◌, ◌+◌, ◌-◌, ◌/◌, ◌<◌, ◌==◌, ◌≡◌, ◌≤◌}
 use Rattle.chess_attacks.proofs.Basics.{nat_le}
 use Rattle.chess_attacks.specs.ties.Taking.{IsPopped}
-use Rattle.chess_rules.proofs.listing_moves.Targeting.{first_none, arrival_from, arrival_needed, false_by, named_by, no_pawn_arrives, no_promotion_here, own_moves, some_named}
+use Rattle.chess_rules.proofs.Targeting.{first_none, arrival_from, arrival_needed, false_by, named_by, no_pawn_arrives, no_promotion_here, own_moves, some_named}
 use Rattle.chess_attacks.proofs.Bits.{off_zero}
 
 -- squares of two words

@@ -1,6 +1,6 @@
 -- The bitboards of the squares to which a man may go.
 use Rattle.chess_rules.proofs.Chess.{Black, Bool, Colour, IsAimed, IsFirst, Kind, King, List, Man, Move, None, Option, Pawn, Position, RuleSet, Some, White, agree_below_at, along, and_from, and_left, and_parts, ap, arith, bit_and, bit_at, bit_not, bit_or, can_go, cases_Bool, cond-false, cond-true, eqb-true, false, false≢true, find, find_no, forward, has_unmoved, inl, inr, is_advance, is_arrival, is_arrival_free, is_arrival_of, is_paralysed, is_pseudo_legal, is_some, is_square, joined, leaps, list_any, man_on, may_arrive, may_promote, not, not-true, or_cases, or_left, or_right, other, pawn_steps_to, queen_steps, range_with_len, rank_of, reaches, reaches_as, refl, rules, same_Bool, same_colour, same_kind, second_rank, shared, side_of, squares_both, squares_not, squares_of, squares_same, steps_to, sym, true, w64, word, word_empty, word_has, ℕ, ◌&&◌, ◌+◌, ◌/◌, ◌<◌, ◌==◌, ◌||◌, ◌∙◌, ◌≡◌}
-use Rattle.chess_rules.proofs.making_moves.Pseudo.{king_is_no_pawn}
+use Rattle.chess_rules.proofs.Pseudo.{king_is_no_pawn}
 
 -- the squares with neither a man of the mover nor an enemy king
 pub free_word : (men : List (Option Man)) (c : Colour) (a b : ℕ) → a ≡ side_of men c → b ≡ squares_of men (other c) King

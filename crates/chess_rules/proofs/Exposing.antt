@@ -3,12 +3,12 @@ use Rattle.chess_rules.proofs.Chess.{DescribesMenAfter, AreOthers, DescribesMen,
 use Rattle.chess_attacks.specs.declared.occupancy.Occupancy.{Occupancy}
 use Rattle.chess_attacks.proofs.attacks.Attacking.{attacked_by}
 use Rattle.chess_attacks.proofs.rays.Ends.{square_is}
-use Rattle.chess_rules.proofs.making_moves.Fits.{arrived, arriving_king, pawn_is_no_king, taken}
-use Rattle.chess_rules.proofs.making_moves.Pseudo.{IsMade, made}
-use Rattle.chess_rules.proofs.legality.Seeing.{IsCapture, IsNoKing, kept_now, king_stands, left_now, seen_after, there_now}
-use Rattle.chess_rules.proofs.legality.Blocking.{other_twice, arriving_colour, king_is, moved_plainly, other_differs, simple_after}
-use Rattle.chess_rules.proofs.making_moves.Returns.{moved_arrival}
-use Rattle.chess_rules.proofs.making_moves.Stays.{moved_sound}
+use Rattle.chess_rules.proofs.Fits.{arrived, arriving_king, pawn_is_no_king, taken}
+use Rattle.chess_rules.proofs.Pseudo.{IsMade, made}
+use Rattle.chess_rules.proofs.Seeing.{IsCapture, IsNoKing, kept_now, king_stands, left_now, seen_after, there_now}
+use Rattle.chess_rules.proofs.Blocking.{other_twice, arriving_colour, king_is, moved_plainly, other_differs, simple_after}
+use Rattle.chess_rules.proofs.Returns.{moved_arrival}
+use Rattle.chess_rules.proofs.Stays.{moved_sound}
 
 -- the parts of a simple move
 pub record IsSimple (rule : RuleSet) (p : Position) (x : Man) (m : Move) : Type 0 where

@@ -3,11 +3,11 @@ use Rattle.chess_rules.proofs.Chess.{AllPairs, Bool, Colour, Contains, Gait, Hop
 use Rattle.chess_rules.specs.ties.Places.{promotion_number}
 use Rattle.std.specs.Prelude.{slice_index_or}
 use Rattle.std.proofs.lemmas.Bool.Decides.{nat_tests}
-use Rattle.chess_rules.proofs.listing_moves.Members.{first_in, none_in_nil, from_flat_map, from_map, from_range, in_flat_map, in_map, in_range, pairs_map}
-use Rattle.chess_rules.proofs.listing_moves.Places.{triples_numbered}
-use Rattle.chess_rules.proofs.making_moves.Pseudo.{IsMade, made, pawn_steps_to, ways}
+use Rattle.chess_rules.proofs.Members.{first_in, none_in_nil, from_flat_map, from_map, from_range, in_flat_map, in_map, in_range, pairs_map}
+use Rattle.chess_rules.proofs.Places.{triples_numbered}
+use Rattle.chess_rules.proofs.Pseudo.{IsMade, made, pawn_steps_to, ways}
 use Rattle.chess_attacks.proofs.rays.OnSquares.{on_board}
-use Rattle.chess_rules.proofs.making_moves.Stays.{maker}
+use Rattle.chess_rules.proofs.Stays.{maker}
 
 -- each origin, arrival and promotion of the lists make a triple
 pub in_triples : (m : Move) → m.from < 64 → m.to < 64 → Contains promotions m.promo → Contains triples m

@@ -1,6 +1,6 @@
 -- The men that attacks depend on after a move.
 use Rattle.chess_rules.proofs.Chess.{DescribesMen, Bool, Colour, Kind, King, List, Man, None, Option, Some, and_left, ap, arith, bit_not, cases_Bool, cases_eq, differs, eq-eqb, eqb-true, false, false≢true, is_man, is_of_colour, is_some, is_square, joined, king_square, length, man_on, man_on-with_other, man_on-without_other, man_on-without_same, not, or_cases, or_parts, or_right, other, refl, rules, same_colour, shared, occupancy_after, squares, squares_either, squares_not, squares_of, squares_same, true, w64, with_man, without_at, without_man, word, ℕ, ◌&&◌, ◌<◌, ◌||◌, ◌∙◌, ◌≡◌, ◌≢◌}
-use Rattle.chess_rules.proofs.making_moves.Plays.{stays_empty}
+use Rattle.chess_rules.proofs.Plays.{stays_empty}
 
 -- a man is on s after the men on a and o have left and one has come to b
 abbrev pub is_occupied_after : List (Option Man) → ℕ → Option ℕ → ℕ → ℕ → Bool

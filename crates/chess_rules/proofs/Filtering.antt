@@ -1,10 +1,10 @@
 -- Walking from candidate to candidate skips the legal moves that a filter removes.
 use Rattle.chess_rules.proofs.Chess.{AreCandidates, AreLegal, AreOrigins, AreKeptSquares, Bool, NoneMeet, IsFirstKept, Move, None, Position, RuleSet, SomeFails, [], all_triples, and_le_l, and_left, ap, append-nil, append_assoc, append_cancel_right, arith, bit_and, bit_at, bit_at-trailing_zeros, bit_at_and, bit_not, cases_Bool, cases_lt, eq-eqb, eqb-true, false, filter, filter-append, is_legal, is_legal_and, length, moves_after, moves_between, meets_on, refl, rules, second_fails, sym, trailing_zeros, triple_at, true, w64, ℕ, ◌++◌, ◌+◌, ◌<◌, ◌==◌, ◌^◌, ◌∙◌, ◌∷◌, ◌≡◌, ◌≤◌, List, met_after, drop, ◌&&◌, triples}
 use Rattle.std.proofs.lemmas.Nat.Bits.{bit_at_not}
-use Rattle.chess_rules.proofs.listing_moves.Between.{after_cut, between-past}
-use Rattle.chess_rules.proofs.listing_moves.Places.{met_after-end, met_after-here, met_after-skip, over, place_of_none, place_of_triple}
-use Rattle.chess_rules.proofs.listing_moves.Targeting.{false_by}
-use Rattle.chess_rules.proofs.listing_moves.Walks.{off_second, on_first}
+use Rattle.chess_rules.proofs.Between.{after_cut, between-past}
+use Rattle.chess_rules.proofs.Places.{met_after-end, met_after-here, met_after-skip, over, place_of_none, place_of_triple}
+use Rattle.chess_rules.proofs.Targeting.{false_by}
+use Rattle.chess_rules.proofs.Walks.{off_second, on_first}
 
 filter_both : {X : Type 0} (s t : X → Bool) (xs : List X) → filter t (filter s xs) ≡ filter (λ x. s x && t x) xs
 filter_both s t [] = refl

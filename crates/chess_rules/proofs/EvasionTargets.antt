@@ -1,9 +1,9 @@
 -- A move that doesn't arrive where a check is parried isn't legal.
 use Rattle.chess_rules.proofs.Chess.{AreEvasions, AreEvasionsFrom, IsWellFormed, King, Man, Move, Position, RuleSet, Some, and_left, and_parts, and_right, ap, arith, bit_and, bit_at, bit_not, bit_or, captures_are_reborn, cases_Bool, like_men_paralyse, false, is_castling, is_plain, is_promoting, is_some, is_square, man_on, may_arrive, off_left, off_right, refl, rules, same_kind, true, w64, word, word_has, ℕ, ◌<◌, ◌==◌, ◌∙◌, ◌≡◌}
-use Rattle.chess_rules.proofs.legality.StayingInCheck.{check_unmet}
-use Rattle.chess_rules.proofs.listing_moves.Targeting.{arrival_needed, every_square_on, false_by, no_promotion_here}
-use Rattle.chess_rules.proofs.listing_moves.Arrivals.{may_go_aimed}
-use Rattle.chess_rules.proofs.listing_moves.Walks.{off_second}
+use Rattle.chess_rules.proofs.StayingInCheck.{check_unmet}
+use Rattle.chess_rules.proofs.Targeting.{arrival_needed, every_square_on, false_by, no_promotion_here}
+use Rattle.chess_rules.proofs.Arrivals.{may_go_aimed}
+use Rattle.chess_rules.proofs.Walks.{off_second}
 
 -- a move that isn't castling, captures nobody en passant and, in Circe, nobody at all, is plain: by the words of the squares where that may be
 pub plain_elsewhere : (rule : RuleSet) (p : Position) (x : Man) (m : Move) (b d : ℕ) → m.to < 64 → is_castling x m ≡ false

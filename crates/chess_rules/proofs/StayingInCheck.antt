@@ -1,14 +1,14 @@
 -- A check that isn't parried remains.
 use Rattle.chess_rules.proofs.Chess.{AreEvasions, AtMostOneKing, Bool, Colour, IsNoEvasion, IsWellFormed, Kind, King, List, Man, Move, Option, Position, Queen, RuleSet, Some, Step, and_from, and_parts, and_right, ap, arith, arriving_man, bit_and, bit_at, bit_not, bit_or, capture_square, cases_eq, cond-false, eq-eqb, like_men_paralyse, attacks_like, is_attacked_by_like, false, false≢true, find_first, first_of_and, has_fairy_lines, has_fairy_lines_of, in_check, is_attacked, is_attacker, is_checker, is_man, is_of_colour, is_paralysed, is_plain, is_pseudo_legal, is_square, is_vacant_at, king_square, list_any, list_any-append, man_on, may_be_paralysed, may_paralyse_new_kind, not-true, or_left, or_parts, or_right, other, position_after, queen_steps, reaches, reaches_as, rides, rules, same_colour, same_kind, second_fails, second_of_and, some_square, some_square_false, some_square_true, squares, squares_both, squares_either, subst, sym, true, w64, word, word_has, ℕ, ◌&&◌, ◌<◌, ◌==◌, ◌∙◌, ◌≡◌, ◌≢◌}
-use Rattle.chess_rules.proofs.legality.Blocking.{IsPlain, IsShift, arrived_shift, king_is, man_there, men_after, other_differs}
-use Rattle.chess_rules.proofs.legality.Exposing.{free_of_own}
-use Rattle.chess_rules.proofs.listing_moves.Targeting.{every_square_on}
-use Rattle.chess_rules.proofs.making_moves.Fits.{arrived}
+use Rattle.chess_rules.proofs.Blocking.{IsPlain, IsShift, arrived_shift, king_is, man_there, men_after, other_differs}
+use Rattle.chess_rules.proofs.Exposing.{free_of_own}
+use Rattle.chess_rules.proofs.Targeting.{every_square_on}
+use Rattle.chess_rules.proofs.Fits.{arrived}
 use Rattle.chess_attacks.proofs.rays.Flips.{backward, opposed, rides_turned}
 use Rattle.chess_attacks.proofs.rays.Parting.{line_open}
-use Rattle.chess_rules.proofs.making_moves.Pseudo.{made}
+use Rattle.chess_rules.proofs.Pseudo.{made}
 use Rattle.chess_attacks.proofs.rays.OnSquares.{on_board}
-use Rattle.chess_rules.proofs.making_moves.Stays.{after_well_formed}
+use Rattle.chess_rules.proofs.Stays.{after_well_formed}
 
 -- what stood elsewhere stands there
 keeps : (men after : List (Option Man)) (a b : ℕ) (z : Man) (q : ℕ) (y : Man) → IsShift men after a b z → man_on men q ≡ Some y → q ≢ a → q ≢ b

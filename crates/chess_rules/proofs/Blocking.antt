@@ -2,15 +2,15 @@
 use Rattle.chess_rules.proofs.Chess.{AtMostOneKing, Bishop, Bool, Colour, Diagonal, Direction, East, Grasshopper, IsWellFormed, Kind, King, List, Man, Move, Nightrider, None, North, NorthEast, NorthWest, Option, Position, Queen, Rook, RuleSet, Some, South, SouthEast, SouthWest, Step, Straight, West, [], and_from, and_parts, and_right, any_kept, ap, arith, arriving_man, bit_at, bit_not, bit_or, cannot_expose, capture_square, captures_are_reborn, cases_Bool, cases_eq, cond-false, cond-true, diagonal_steps, differs, eq-eqb, every_square, false, false_from_ne_true, false≢true, find_first, find_square_some, has_fairy, hops, in_check, inl, inr, is_attacked, is_attacked_at, is_attacker, is_rider_beyond, is_castling, is_checker, is_checker_at, is_man, is_of_colour, is_on_fairy_line, is_on_some, is_plain, is_promotion_right, is_pseudo_legal, is_reached, is_blocking, is_square, joined, king_square, knight_steps, length, list_any, list_any-append, man_on, may_expose, may_expose_at, may_be_hurdle, moved_men, not, not-true, not_zero, or_cases, or_left, or_parts, or_right, other, position_after, position_after_by, queen_steps, reaches, reaches_as, reborn_square, refl, rider_along, rides, rules, same_colour, same_kind, second_fails, some_square_false, some_square_true, squares, squares_either, squares_of, squares_same, step_of, steps_along, straight_steps, sym, true, w64, word, word_empty, word_has, ℕ, ◌&&◌, ◌<◌, ◌==◌, ◌||◌, ◌∙◌, ◌∷◌, ◌≡◌, ◌≢◌}
 use Rattle.chess_rules.specs.declared.legality.blockers.RiderLines.{RiderLines}
 use Rattle.chess_attacks.proofs.rays.Ends.{square_is}
-use Rattle.chess_rules.proofs.legality.FairyLines.{Holds, WasThere, fairy_parts, hopper_before, nightrider_before, once, ride_kept}
-use Rattle.chess_rules.proofs.making_moves.Fits.{arrived, arriving_king}
+use Rattle.chess_rules.proofs.FairyLines.{Holds, WasThere, fairy_parts, hopper_before, nightrider_before, once, ride_kept}
+use Rattle.chess_rules.proofs.Fits.{arrived, arriving_king}
 use Rattle.chess_attacks.proofs.rays.Flips.{backward, opposed, rides_turned}
 use Rattle.chess_attacks.proofs.rays.Parting.{Frees, line_open}
-use Rattle.chess_rules.proofs.making_moves.Plays.{none_from_is_some}
-use Rattle.chess_rules.proofs.making_moves.Pseudo.{IsMade, made}
+use Rattle.chess_rules.proofs.Plays.{none_from_is_some}
+use Rattle.chess_rules.proofs.Pseudo.{IsMade, made}
 use Rattle.chess_attacks.proofs.rays.OnSquares.{on_board}
-use Rattle.chess_rules.proofs.making_moves.Stays.{maker}
-use Rattle.chess_rules.proofs.legality.Seeing.{gone_to, kept_now, left_now, there_now}
+use Rattle.chess_rules.proofs.Stays.{maker}
+use Rattle.chess_rules.proofs.Seeing.{gone_to, kept_now, left_now, there_now}
 use Rattle.chess_attacks.proofs.attacks.Attacking.{goes_on}
 
 -- the man on a is gone, z has come to b, and nothing else has changed

@@ -2,7 +2,7 @@
 use Rattle.std.proofs.Math.Seq.{take-add}
 use Rattle.std.specs.Prelude.{min}
 use Rattle.chess_rules.proofs.Chess.{Bool, NoneMeet, List, Move, Position, RuleSet, [], all_triples, ap, arith, drop, drop-drop, false, filter-append, is_legal, met_after, met_between, moves, moves_after, moves_between, refl, rules, sym, take, take-append-drop, triple_at, triples, true, ℕ, ◌++◌, ◌+◌, ◌-◌, ◌<◌, ◌∙◌, ◌∷◌, ◌≡◌, ◌≤◌}
-use Rattle.chess_rules.proofs.listing_moves.Places.{drop_triples, drop_triples_past, moves_after-start, over, place_of_triple}
+use Rattle.chess_rules.proofs.Places.{drop_triples, drop_triples_past, moves_after-start, over, place_of_triple}
 
 take-none : (n : ℕ) → take {A = Move} n [] ≡ []
 take-none n = grind arith
