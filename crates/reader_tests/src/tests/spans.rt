@@ -1,4 +1,4 @@
-//! Where faults are found. In the texts, brackets enclose the place of each fault; they are no part of the input.
+//! Where faults are found. In the texts, brackets enclose the span of each fault; they are no part of the input.
 ghost use Rattle.std.specs.Prelude.{◌<◌};
 
 use arrayvec::ArrayVec;
@@ -7,7 +7,7 @@ use pop_text::TrialSource;
 
 const BYTES: usize = 5000;
 
-const PLACES: usize = 4;
+const SPANS: usize = 4;
 
 /// Inputs that end cleanly.
 const ENDED: [&str; 12] = [
@@ -33,17 +33,17 @@ const FAILED: [&str; 4] = [
     "BeginProblem Piec[]",
 ];
 
-/// An input, and the places of its faults: the number of bytes before each, and up to its end.
+/// An input, and the spans of its faults: the number of bytes before each, and up to its end.
 #[derive(Drop)]
 struct Marked {
     input: ArrayVec<u8, BYTES>,
-    places: ArrayVec<(u32, u32), PLACES>,
+    spans: ArrayVec<(u32, u32), SPANS>,
 }
 
-// Returns the input of a marked text, with blanks before it, and the places that it marks.
+// Returns the input of a marked text, with blanks before it, and the spans that it marks.
 fn unmarked(blanks: usize, text: &str) -> Marked {
     let mut input = ArrayVec::new();
-    let mut places = ArrayVec::new();
+    let mut spans = ArrayVec::new();
     for _blank in 0..blanks {
         let _ = input.try_push(b' ');
     }
@@ -53,48 +53,48 @@ fn unmarked(blanks: usize, text: &str) -> Marked {
         match byte {
             b'[' => start = here,
             b']' => {
-                let _ = places.try_push((start, here));
+                let _ = spans.try_push((start, here));
             }
             _ => {
                 let _ = input.try_push(byte);
             }
         }
     }
-    Marked { input, places }
+    Marked { input, spans }
 }
 
-// Returns the places of the faults that the reader finds, from a source of at most `at_most` bytes a call, which may
+// Returns the spans of the faults that the reader finds, from a source of at most `at_most` bytes a call, which may
 // fail at the end.
-fn places_in(input: &[u8], at_most: usize, failed: bool) -> ArrayVec<(u32, u32), PLACES>
+fn spans_in(input: &[u8], at_most: usize, failed: bool) -> ArrayVec<(u32, u32), SPANS>
     requires { 0 < at_most }
 {
     let fails_at = if failed { Some(input.len()) } else { None };
     let mut source = TrialSource::new(input, at_most, fails_at);
     let mut reader = Reader::new();
-    let mut places = ArrayVec::new();
-    for _round in 0..PLACES + 1 {
-        let (item, place) = reader.next_placed(&mut source);
+    let mut spans = ArrayVec::new();
+    for _round in 0..SPANS + 1 {
+        let (item, span) = reader.next_with_span(&mut source);
         match item {
             Item::End => break,
             Item::Sound(_, _) => {}
             Item::Faulty(_, _) => {
-                let _ = places.try_push((place.start, place.end));
+                let _ = spans.try_push((span.start, span.end));
             }
         }
     }
-    places
+    spans
 }
 
-// Returns whether the faults of a marked text are found at their places.
+// Returns whether the faults of a marked text are found at their spans.
 fn are_found(blanks: usize, text: &str, at_most: usize, failed: bool) -> bool
     requires { 0 < at_most }
 {
     let wanted = unmarked(blanks, text);
-    places_in(wanted.input.as_slice(), at_most, failed).as_slice() == wanted.places.as_slice()
+    spans_in(wanted.input.as_slice(), at_most, failed).as_slice() == wanted.spans.as_slice()
 }
 
 #[test]
-fn places_of_faults(rt: HostRuntime) {
+fn spans_of_faults(rt: HostRuntime) {
     for text in &ENDED {
         assert!(rt; are_found(0, text, 1, false), "{text}");
         assert!(rt; are_found(0, text, 4096, false), "{text}");
@@ -102,7 +102,7 @@ fn places_of_faults(rt: HostRuntime) {
 }
 
 #[test]
-fn places_where_the_source_fails(rt: HostRuntime) {
+fn spans_where_the_source_fails(rt: HostRuntime) {
     for text in &FAILED {
         assert!(rt; are_found(0, text, 1, true), "{text}");
         assert!(rt; are_found(0, text, 4096, true), "{text}");
@@ -111,7 +111,7 @@ fn places_where_the_source_fails(rt: HostRuntime) {
 
 // Each byte of the texts is at a window's end once.
 #[test]
-fn places_at_a_window_end(rt: HostRuntime) {
+fn spans_at_a_window_end(rt: HostRuntime) {
     for blanks in 3990..4097usize {
         for text in &ENDED {
             assert!(rt;
@@ -124,7 +124,7 @@ fn places_at_a_window_end(rt: HostRuntime) {
 
 // A word of 161 bytes after 22 others.
 #[test]
-fn place_of_a_long_word(rt: HostRuntime) {
+fn span_of_a_long_word(rt: HostRuntime) {
     let mut text = unmarked(0, "BeginProblem Pieces\n  ").input;
     for _letter in 0..161 {
         let _ = text.try_push(b'x');
@@ -133,7 +133,7 @@ fn place_of_a_long_word(rt: HostRuntime) {
         let _ = text.try_push(byte);
     }
     for at_most in &[1, 100, 4096] {
-        let places = places_in(text.as_slice(), *at_most, false);
-        assert!(rt; places.as_slice() == [(22, 183)].as_slice());
+        let spans = spans_in(text.as_slice(), *at_most, false);
+        assert!(rt; spans.as_slice() == [(22, 183)].as_slice());
     }
 }

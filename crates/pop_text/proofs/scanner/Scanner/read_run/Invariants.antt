@@ -1,6 +1,6 @@
 use Rattle.pop_text.proofs.Basics.{CallsSource, is_in_word, limit, ◌-◌}
 use Rattle.pop_text.proofs.Using.{SoFar, kept_of_run}
-use Rattle.pop_text.proofs.scanner.Scanner.take_run.Given as goal
+use Rattle.pop_text.proofs.scanner.Scanner.read_run.Given as goal
 
 -- bytes of a run are used so far
 abbrev pub invariant-loop-byte : goal.invariant-loop-byte

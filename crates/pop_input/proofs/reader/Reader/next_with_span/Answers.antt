@@ -3,10 +3,10 @@ use Rattle.pop_input.proofs.Items.{block_starts, line_read, long_read, open_read
 use Rattle.pop_input.proofs.Skipping.{skip_read}
 use Rattle.pop_input.proofs.Ends.{word_closes, input_ends, cut_read}
 use Rattle.pop_input.proofs.Used.{closed_item, cut_takes, end_used, some_none, some_run, some_skipped, some_then, word_used}
-use Rattle.pop_input.proofs.Places.{close_placed, closing_command, closing_word, cut_placed, end_placed, fresh_place, long_part, long_placed, word_placed}
+use Rattle.pop_input.proofs.Spans.{close_spanned, closing_command, closing_word, cut_spanned, end_spanned, fresh_span, long_part, long_spanned, word_spanned}
 use Rattle.pop_input.proofs.DeviceFaults.{block_fault_textual, cut_failed, ended_textual, word_closes_textual}
-use Rattle.pop_input.proofs.reader.Reader.next_placed.Goals as goal
-use Rattle.pop_input.proofs.reader.Reader.next_placed.Goals.{in-First, in-Later}
+use Rattle.pop_input.proofs.reader.Reader.next_with_span.Goals as goal
+use Rattle.pop_input.proofs.reader.Reader.next_with_span.Goals.{in-First, in-Later}
 
 pub loop-keyword-init : goal.loop-keyword-init
 loop-keyword-init g c = rw (← c.self.view_is) (record {
@@ -19,9 +19,9 @@ loop-keyword-init g c = rw (← c.self.view_is) (record {
   used = some_none c.self.inside.scanner (g.S.Source.remaining c.args.source.now);
   starts = elim c.match-self.branch [ in-First w ↦ rw w.in-First.is refl | in-Later w ↦ rw w.in-Later.is refl ];
   calls_source = calls_none c.self.inside.scanner.end (g.S.Source.remaining c.args.source.now) (g.S.Source.failures c.args.source.now);
-  placed = elim c.match-self.branch [
-    | in-First w ↦ rw w.block-is (fresh_place _ _ _ _ _ _ w.first-block.ensures)
-    | in-Later w ↦ rw w.block-is (fresh_place _ _ _ _ _ _ w.later-block.ensures)
+  spanned = elim c.match-self.branch [
+    | in-First w ↦ rw w.block-is (fresh_span _ _ _ _ _ _ w.first-block.ensures)
+    | in-Later w ↦ rw w.block-is (fresh_span _ _ _ _ _ _ w.later-block.ensures)
   ];
 })
 
@@ -34,20 +34,20 @@ loop-keyword-preserved-in-Line g c =
       used = some_then i.used c.in-Line.ensures.used;
       starts = i.starts;
       calls_source = calls_then i.calls_source c.next_token.ensures.calls_source;
-      placed = λ fault now. i.placed fault (sym c.note.ensures.fault ∙ now);
+      spanned = λ fault now. i.spanned fault (sym c.note.ensures.fault ∙ now);
     }
 
 pub loop-keyword-preserved-in-TooLong : goal.loop-keyword-preserved-in-TooLong
 loop-keyword-preserved-in-TooLong g c =
     let i = c.loop-keyword.invariant in
-    let p = c.in-TooLong.ensures.place in
+    let p = c.in-TooLong.ensures.span in
     let t = long_part _ _ _ _ _ p.0 p.1 p.2.uses p.3 c.in-TooLong.ensures.token.1.1 in
     record {
       block = long_read _ _ _ _ _ _ _ _ _ i.block c.in-TooLong.line p.0 t p.1 c.read_long.ensures.fault;
       used = some_then i.used (some_run p.2.uses);
       starts = i.starts;
       calls_source = calls_then i.calls_source c.next_token.ensures.calls_source;
-      placed = long_placed _ _ _ _ _ _ _ _ c.read_long.new.self i.block i.used c.in-TooLong.line p.0 t _ p.2 p.3 p.1 _ i.placed c.read_long.ensures.fault _ c.after-place.ensures;
+      spanned = long_spanned _ _ _ _ _ _ _ _ c.read_long.new.self i.block i.used c.in-TooLong.line p.0 t _ p.2 p.3 p.1 _ i.spanned c.read_long.ensures.fault _ c.after-span.ensures;
     }
 
 pub loop-keyword-preserved : goal.loop-keyword-preserved
@@ -56,7 +56,7 @@ loop-keyword-preserved g c =
     let t = c.next_token.ensures.token in
     let word = rw c.in-Word.is at t in
     let used = rw c.in-Word.is at c.next_token.ensures.used in
-    let place = rw c.in-Word.is at c.next_token.ensures.place in
+    let span = rw c.in-Word.is at c.next_token.ensures.span in
     let r = c.read_word.ensures.read in
     let is : last_of (command_of c.next_token.new.word.bytes.items) ≡ None = sym c.read_word.ensures.closes ∙ c.in-None.is in
     record {
@@ -65,7 +65,7 @@ loop-keyword-preserved g c =
       used = some_skipped (some_then i.used (some_run used.0)) c.skip_on.ensures.skips;
       starts = i.starts;
       calls_source = rw c.skip_on.ensures.skips.end (calls_then i.calls_source c.next_token.ensures.calls_source);
-      placed = word_placed _ _ _ _ _ _ _ _ _ i.block i.used _ _ word.0 _ place used.1 _ i.placed r.fault (λ none. r) _ c.after-place-in-Word.ensures;
+      spanned = word_spanned _ _ _ _ _ _ _ _ _ i.block i.used _ _ word.0 _ span used.1 _ i.spanned r.fault (λ none. r) _ c.after-span-in-Word.ensures;
     }
 
 pub returns-in-Some-clause-item : goal.returns-in-Some-clause-item
@@ -125,30 +125,30 @@ pub returns-in-Cut-clause-failed : goal.returns-in-Cut-clause-failed
 returns-in-Cut-clause-failed g c = rw c.item_of_cut-last.ensures
     (cut_failed _ _ _ _ c.loop-keyword.block.fault c.in-Cut.cut c.in-Cut.ensures.token (block_fault_textual _ _ _ _ _ _ c.loop-keyword.invariant.block))
 
-pub returns-in-Some-clause-place : goal.returns-in-Some-clause-place
-returns-in-Some-clause-place g c =
+pub returns-in-Some-clause-span : goal.returns-in-Some-clause-span
+returns-in-Some-clause-span g c =
     let i = c.loop-keyword.invariant in
     let new : ReaderState = record { next = c.next_after-self-inside.result; at = c.next_token.new.scanner } in
     let r = c.read_word.ensures.read in
     let word = c.in-Word.ensures.token in
-    rw c.item_at_close.ensures (close_placed _ new _ _ _ c.read_word.new.block _ c.in-Some.last
-    (word_placed _ _ _ _ _ _ _ _ _ i.block i.used _ _ word.0 _ c.in-Word.ensures.place c.in-Word.ensures.used.1 _ i.placed r.fault (λ none. r) _
-    c.after-place-in-Word.ensures)
-    (λ none. closing_word _ _ _ _ _ _ _ _ _ i.block i.used _ _ word.0 _ c.in-Word.ensures.place c.in-Word.ensures.used.1 _ i.placed r.fault (λ x. r) _
-    c.after-place-in-Word.ensures none (closing_command _ c.in-Some.last (sym c.read_word.ensures.closes ∙ c.in-Some.is))))
+    rw c.item_at_close.ensures (close_spanned _ new _ _ _ c.read_word.new.block _ c.in-Some.last
+    (word_spanned _ _ _ _ _ _ _ _ _ i.block i.used _ _ word.0 _ c.in-Word.ensures.span c.in-Word.ensures.used.1 _ i.spanned r.fault (λ none. r) _
+    c.after-span-in-Word.ensures)
+    (λ none. closing_word _ _ _ _ _ _ _ _ _ i.block i.used _ _ word.0 _ c.in-Word.ensures.span c.in-Word.ensures.used.1 _ i.spanned r.fault (λ x. r) _
+    c.after-span-in-Word.ensures none (closing_command _ c.in-Some.last (sym c.read_word.ensures.closes ∙ c.in-Some.is))))
 
-pub returns-in-Ended-clause-place : goal.returns-in-Ended-clause-place
-returns-in-Ended-clause-place g c =
+pub returns-in-Ended-clause-span : goal.returns-in-Ended-clause-span
+returns-in-Ended-clause-span g c =
     let i = c.loop-keyword.invariant in
     let new : ReaderState = record { next = Nothing; at = c.next_token.new.scanner } in
     let u = c.in-Ended.ensures.used in
-    rw c.item_at_end.ensures (end_placed _ new _ _ _ _ _ i.block i.used c.in-Ended.ensures.token.0 u.0 (inl u.1) _ i.placed _
-    (c.after-place-in-Ended.ensures ∙ rw c.in-Ended.ensures.place refl) c.in-Ended.line)
+    rw c.item_at_end.ensures (end_spanned _ new _ _ _ _ _ i.block i.used c.in-Ended.ensures.token.0 u.0 (inl u.1) _ i.spanned _
+    (c.after-span-in-Ended.ensures ∙ rw c.in-Ended.ensures.span refl) c.in-Ended.line)
 
-pub returns-in-Cut-clause-place : goal.returns-in-Cut-clause-place
-returns-in-Cut-clause-place g c =
+pub returns-in-Cut-clause-span : goal.returns-in-Cut-clause-span
+returns-in-Cut-clause-span g c =
     let i = c.loop-keyword.invariant in
     let new : ReaderState = record { next = c.next_after-self-inside-in-Cut.result; at = c.next_token.new.scanner } in
     let u = c.in-Cut.ensures.used in
-    rw c.item_of_cut-last.ensures (cut_placed _ new _ _ _ _ _ i.block i.used (cut_takes c.in-Cut.cut c.in-Cut.ensures.token) u.0 (inr (c.in-Cut.cut, u.1)) _
-    i.placed _ (c.after-place-in-Cut.ensures ∙ rw c.in-Cut.ensures.place refl) c.in-Cut.cut)
+    rw c.item_of_cut-last.ensures (cut_spanned _ new _ _ _ _ _ i.block i.used (cut_takes c.in-Cut.cut c.in-Cut.ensures.token) u.0 (inr (c.in-Cut.cut, u.1)) _
+    i.spanned _ (c.after-span-in-Cut.ensures ∙ rw c.in-Cut.ensures.span refl) c.in-Cut.cut)

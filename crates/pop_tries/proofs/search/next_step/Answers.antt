@@ -4,7 +4,7 @@ use Rattle.pop_tries.specs.ties.Searching.{contest_of}
 use Rattle.pop_tries.proofs.Candidates.{unknown_keys}
 use Rattle.pop_walk.specs.Events.{impossible}
 use Rattle.pop_tries.proofs.Goings.{with_event}
-use Rattle.pop_tries.proofs.search.take_step.Goals as goal
+use Rattle.pop_tries.proofs.search.next_step.Goals as goal
 
 pub returns-in-NotPossible : goal.returns-in-NotPossible
 unfolding HoldsAt left_of

@@ -1,4 +1,4 @@
--- The place of a fault.
+-- The span of a fault.
 use Rattle.pop_input.proofs.Words.{Advances, Block, Bool, Command, ComesNext, CutsOff, Device, Entry, Err, Fault, IsInputOver, IsNew, IsRunOver, List, Long, NextToken, None, Ok, Option, ReadFault, Reading, ReaderState, ReadsWord, Result, Some, Sound, Tail, Takes, TakesNothing, TakesPart, TextLine, Token, TooLong, Uses, UsesAll, UsesRun, UsesSome, UsesToken, Word, WordTooLong, Yes, [], among, ap, append-nil, append_assoc, arith, at_line, closes, command_of, cut_fault, ended_by, ended_item, entry_now, false, fault_at, fault_of, inl, inr, item_of, item_of_cut, judged_entry, last_of, length, length-append, limit, list_all, list_all-append, or_else, posed_entry, refl, subst, sym, true, uses_then, ℕ, ◌++◌, ◌<◌, ◌∙◌, ◌∷◌, ◌≡◌, ◌≤◌}
 use Rattle.std.specs.Prelude.{IfOk, IfSome}
 use Rattle.pop_text.proofs.Left.{count_then, gap_takes, long_takes}
@@ -8,11 +8,11 @@ use Rattle.pop_text.specs.declared.word.Word.{Word as Room}
 use Rattle.pop_input.specs.Blocks.{Faulty as FaultyEntry}
 use Rattle.pop_input.specs.declared.item.Item.TheVariants.{Faulty as FaultyItem}
 use Rattle.pop_input.specs.declared.item.Last.{Last}
-use Rattle.pop_input.specs.declared.place.Place.{Place}
+use Rattle.pop_input.specs.declared.span.Span.{Span}
 use Rattle.pop_input.specs.declared.token.ReadToken.{ReadToken}
 use Rattle.pop_input.specs.declared.token.ReadToken.TheVariants.{Word as AWord, TooLong as LongWord, Line, Ended, Cut}
-use Rattle.pop_input.specs.ties.Places.{EndsWord, HasPlace, IsClosingWord, IsFaultyWord, is_first, place_by, place_from}
-use Rattle.pop_input.specs.ties.Tokens.{IsGapOver, IsPlaceOf, UsesRunAt, range_of}
+use Rattle.pop_input.specs.ties.Spans.{EndsWord, HasSpan, IsClosingWord, IsFaultyWord, is_first, span_by, span_from}
+use Rattle.pop_input.specs.ties.Tokens.{IsGapOver, IsSpanOf, UsesRunAt, range_of}
 use Rattle.pop_input.proofs.Items.{BlockSoFar, long_fault, word_read}
 use Rattle.pop_input.proofs.Taking.{takes_then}
 use Rattle.pop_input.proofs.Used.{some_all, some_then}
@@ -97,7 +97,7 @@ module _ (old mid new : Reading) (had met left : Option (List ℕ)) (gap : UsesA
   uses_after word (Cut fault) u = (some_then (some_all gap) u.0, u.1)
 
   run_at : (number : ℕ) (run : List ℕ) (u : UsesRun mid new met left number run) → Advances mid new
-      → UsesRunAt old new had left number run (place_from mid.used new.used)
+      → UsesRunAt old new had left number run (span_from mid.used new.used)
   run_at number run u on =
       let none = no_gap mid new met left number run u over on in
       record {
@@ -106,19 +106,19 @@ module _ (old mid new : Reading) (had met left : Option (List ℕ)) (gap : UsesA
         end = refl;
       }
 
-  place_by_token : (word : Room) (text : List ℕ) (token : ReadToken) → NextToken mid new met left word text token → UsesToken mid new met left word token
-      → IsPlaceOf old new had left word (range_of token mid.used new.used) token
-  place_by_token word text AWord t u = run_at word.line word.bytes.items u.0 t.0.1
-  place_by_token word text (LongWord line) t u = (u.0, u.1, run_at line u.0 u.2 t.1.1, u.3)
-  place_by_token word text (Line keyword) t u = tt
-  place_by_token word text (Ended line) t u = refl
-  place_by_token word text (Cut fault) t u = refl
+  span_by_token : (word : Room) (text : List ℕ) (token : ReadToken) → NextToken mid new met left word text token → UsesToken mid new met left word token
+      → IsSpanOf old new had left word (range_of token mid.used new.used) token
+  span_by_token word text AWord t u = run_at word.line word.bytes.items u.0 t.0.1
+  span_by_token word text (LongWord line) t u = (u.0, u.1, run_at line u.0 u.2 t.1.1, u.3)
+  span_by_token word text (Line keyword) t u = tt
+  span_by_token word text (Ended line) t u = refl
+  span_by_token word text (Cut fault) t u = refl
 
-  -- the place of a token after a gap
-  pub place_after : (word : Room) (text : List ℕ) (token : ReadToken) (place : Place) (start end : ℕ) → NextToken mid new met left word text token
-      → UsesToken mid new met left word token → start ≡ mid.used → end ≡ new.used → place ≡ range_of token start end
-      → IsPlaceOf old new had left word place token
-  place_after word text token place start end t u from to is = rw (is, from, to) (place_by_token word text token t u)
+  -- the span of a token after a gap
+  pub span_after : (word : Room) (text : List ℕ) (token : ReadToken) (span : Span) (start end : ℕ) → NextToken mid new met left word text token
+      → UsesToken mid new met left word token → start ≡ mid.used → end ≡ new.used → span ≡ range_of token start end
+      → IsSpanOf old new had left word span token
+  span_after word text token span start end t u from to is = rw (is, from, to) (span_by_token word text token t u)
 
 -- a word that is too long is a token
 pub long_part : (old new : Reading) (had left : Option (List ℕ)) (line : ℕ) (run : List ℕ) → 160 < length run → UsesRun old new had left line run
@@ -128,17 +128,17 @@ long_part old new had left line run long u over on = (long_takes old new had lef
 -- Blocks.
 
 -- a block of which nothing is read has no fault
-pub fresh_place : (first new : Bool) (old : Reading) (had : Option (List ℕ)) (block : Block) (place : Place) → IsNew new block → (fault : Fault)
-    → block.fault ≡ Some fault → IsFaultyWord first old had fault place
-fresh_place first new old had block place n fault now = absurd (grind (arith, n.fault, now))
+pub fresh_span : (first new : Bool) (old : Reading) (had : Option (List ℕ)) (block : Block) (span : Span) → IsNew new block → (fault : Fault)
+    → block.fault ≡ Some fault → IsFaultyWord first old had fault span
+fresh_span first new old had block span n fault now = absurd (grind (arith, n.fault, now))
 
 module _ (first : Bool) (old at new : Reading) (had met left : Option (List ℕ)) (block next : Block) (b : BlockSoFar first old at had met block)
-    (s : UsesSome old at had met) (line : ℕ) (word : List ℕ) (t : TakesPart at new met left (Word line word)) (here : Place)
+    (s : UsesSome old at had met) (line : ℕ) (word : List ℕ) (t : TakesPart at new met left (Word line word)) (here : Span)
     (p : UsesRunAt at new met left line word here) (over : IsRunOver new) where
   word_uses : Uses old new had left ((s.bytes ++ p.uses.gap) ++ word)
   word_uses = rw append_assoc (uses_then s.uses p.uses.uses)
 
-  -- the place of a word
+  -- the span of a word
   ends_word : EndsWord old new had left b.done line word here
   ends_word = record {
     plain = b.plain;
@@ -153,12 +153,12 @@ module _ (first : Bool) (old at new : Reading) (had met left : Option (List ℕ)
     end = p.end ∙ word_uses.used;
   }
 
-  module _ (place : Place) (placed : (fault : Fault) → block.fault ≡ Some fault → IsFaultyWord first old had fault place)
+  module _ (span : Span) (spanned : (fault : Fault) → block.fault ≡ Some fault → IsFaultyWord first old had fault span)
       (reads : next.fault ≡ or_else block.fault (at_line line (fault_of block.begun block.draft word)))
       (r : next.fault ≡ None → ReadsWord block next line word) where
     faulty_by : (known : Option Fault) → block.fault ≡ known → (fault : Fault) → next.fault ≡ Some fault
-        → IsFaultyWord first old had fault (place_by known place here)
-    faulty_by (Some known) is fault now = placed fault (grind (arith, is, now, reads))
+        → IsFaultyWord first old had fault (span_by known span here)
+    faulty_by (Some known) is fault now = spanned fault (grind (arith, is, now, reads))
     faulty_by None is fault now = record {
       front = b.done;
       line = line;
@@ -170,13 +170,13 @@ module _ (first : Bool) (old at new : Reading) (had met left : Option (List ℕ)
       ends = ends_word;
     }
 
-    -- the place of the first faulty word, after one more word
-    pub word_placed : (now : Place) → now ≡ place_by block.fault place here → (fault : Fault) → next.fault ≡ Some fault
+    -- the span of the first faulty word, after one more word
+    pub word_spanned : (now : Span) → now ≡ span_by block.fault span here → (fault : Fault) → next.fault ≡ Some fault
         → IsFaultyWord first old had fault now
-    word_placed now is fault f = rw is (faulty_by block.fault refl fault f)
+    word_spanned now is fault f = rw is (faulty_by block.fault refl fault f)
 
     closing_by : (known : Option Fault) → block.fault ≡ known → next.fault ≡ None → closes (command_of word) ≡ true
-        → IsClosingWord first old new had left (place_by known place here)
+        → IsClosingWord first old new had left (span_by known span here)
     closing_by (Some known) is none c = absurd (grind (arith, is, none, reads))
     closing_by None is none c = record {
       front = b.done;
@@ -187,16 +187,16 @@ module _ (first : Bool) (old at new : Reading) (had met left : Option (List ℕ)
       ends = ends_word;
     }
 
-    -- the place of a closing word, if no word is faulty
-    pub closing_word : (now : Place) → now ≡ place_by block.fault place here → next.fault ≡ None → closes (command_of word) ≡ true
+    -- the span of a closing word, if no word is faulty
+    pub closing_word : (now : Span) → now ≡ span_by block.fault span here → next.fault ≡ None → closes (command_of word) ≡ true
         → IsClosingWord first old new had left now
     closing_word now is none c = rw is (closing_by block.fault refl none c)
 
-  -- the place of the first faulty word, after one more word that is too long
-  pub long_placed : 160 < length word → (place : Place) → ((fault : Fault) → block.fault ≡ Some fault → IsFaultyWord first old had fault place)
-      → next.fault ≡ or_else block.fault (Some (fault_at WordTooLong line)) → (now : Place) → now ≡ place_by block.fault place here → (fault : Fault)
+  -- the span of the first faulty word, after one more word that is too long
+  pub long_spanned : 160 < length word → (span : Span) → ((fault : Fault) → block.fault ≡ Some fault → IsFaultyWord first old had fault span)
+      → next.fault ≡ or_else block.fault (Some (fault_at WordTooLong line)) → (now : Span) → now ≡ span_by block.fault span here → (fault : Fault)
       → next.fault ≡ Some fault → IsFaultyWord first old had fault now
-  long_placed long place placed is = word_placed place placed
+  long_spanned long span spanned is = word_spanned span spanned
       (is ∙ ap (λ n. or_else block.fault (at_line line n)) (sym (long_fault block.begun block.draft word long))) (λ none. absurd (grind (arith, is, none)))
 
 -- a command that makes an item the last or not closes a block
@@ -205,33 +205,33 @@ closing_command c last h = grind arith
 
 -- Items.
 
-entry_placed : (old new : ReaderState) (had left : Option (List ℕ)) (place : Place) (entry : Entry) (last : Last)
-    → IsClosingWord (is_first old.next) old.at new.at had left place → HasPlace old new had left (item_of entry last) place
-entry_placed old new had left place (Sound problem) last c = c
-entry_placed old new had left place (FaultyEntry fault) last c = inr (inl c)
+entry_spanned : (old new : ReaderState) (had left : Option (List ℕ)) (span : Span) (entry : Entry) (last : Last)
+    → IsClosingWord (is_first old.next) old.at new.at had left span → HasSpan old new had left (item_of entry last) span
+entry_spanned old new had left span (Sound problem) last c = c
+entry_spanned old new had left span (FaultyEntry fault) last c = inr (inl c)
 
--- the place of the item that a word closes
-pub close_placed : (old new : ReaderState) (had left : Option (List ℕ)) (place : Place) (block : Block) (line : ℕ) (last : Last)
-    → ((fault : Fault) → block.fault ≡ Some fault → IsFaultyWord (is_first old.next) old.at had fault place)
-    → (block.fault ≡ None → IsClosingWord (is_first old.next) old.at new.at had left place)
-    → HasPlace old new had left (item_of (entry_now block line) last) place
-close_placed old new had left place block line last faulty sound = by_fault block.fault faulty sound
+-- the span of the item that a word closes
+pub close_spanned : (old new : ReaderState) (had left : Option (List ℕ)) (span : Span) (block : Block) (line : ℕ) (last : Last)
+    → ((fault : Fault) → block.fault ≡ Some fault → IsFaultyWord (is_first old.next) old.at had fault span)
+    → (block.fault ≡ None → IsClosingWord (is_first old.next) old.at new.at had left span)
+    → HasSpan old new had left (item_of (entry_now block line) last) span
+close_spanned old new had left span block line last faulty sound = by_fault block.fault faulty sound
   where
-    by_fault : (f : Option Fault) → ((fault : Fault) → f ≡ Some fault → IsFaultyWord (is_first old.next) old.at had fault place)
-        → (f ≡ None → IsClosingWord (is_first old.next) old.at new.at had left place)
-        → HasPlace old new had left (item_of (judged_entry f block.draft block.title block.author line) last) place
+    by_fault : (f : Option Fault) → ((fault : Fault) → f ≡ Some fault → IsFaultyWord (is_first old.next) old.at had fault span)
+        → (f ≡ None → IsClosingWord (is_first old.next) old.at new.at had left span)
+        → HasSpan old new had left (item_of (judged_entry f block.draft block.title block.author line) last) span
     by_fault (Some fault) p q = inl (p fault refl)
-    by_fault None p q = entry_placed old new had left place (posed_entry block.draft block.title block.author line) last (q refl)
+    by_fault None p q = entry_spanned old new had left span (posed_entry block.draft block.title block.author line) last (q refl)
 
 module _ (old new : ReaderState) (mid : Reading) (had met left : Option (List ℕ)) (block : Block) (b : BlockSoFar (is_first old.next) old.at mid had met block)
     (s : UsesSome old.at mid had met) (t : Takes (among mid) (among new.at) met left []) (u : UsesSome mid new.at met left) (over : IsInputOver new.at)
-    (place : Place) (placed : (fault : Fault) → block.fault ≡ Some fault → IsFaultyWord (is_first old.next) old.at had fault place) where
+    (span : Span) (spanned : (fault : Fault) → block.fault ≡ Some fault → IsFaultyWord (is_first old.next) old.at had fault span) where
   end_uses : Uses old.at new.at had left (s.bytes ++ u.bytes)
   end_uses = uses_then s.uses u.uses
 
   end_by : (known : Option Fault) → block.fault ≡ known → (other : Fault) (last : Last)
-      → HasPlace old new had left (FaultyItem (ended_by known other) last) (place_by known place (place_from new.at.used new.at.used))
-  end_by (Some fault) is other last = inl (placed fault is)
+      → HasSpan old new had left (FaultyItem (ended_by known other) last) (span_by known span (span_from new.at.used new.at.used))
+  end_by (Some fault) is other last = inl (spanned fault is)
   end_by None is other last = inr (inr (record {
     tokens = b.done;
     plain = b.plain;
@@ -247,18 +247,18 @@ module _ (old new : ReaderState) (mid : Reading) (had met left : Option (List �
     end = end_uses.used;
   }))
 
-  -- the place of a block in which the input ends
-  pub end_placed : (now : Place) → now ≡ place_by block.fault place (place_from new.at.used new.at.used) → (line : ℕ)
-      → HasPlace old new had left (ended_item block line) now
-  end_placed now is line = rw is (end_by block.fault refl _ Yes)
+  -- the span of a block in which the input ends
+  pub end_spanned : (now : Span) → now ≡ span_by block.fault span (span_from new.at.used new.at.used) → (line : ℕ)
+      → HasSpan old new had left (ended_item block line) now
+  end_spanned now is line = rw is (end_by block.fault refl _ Yes)
 
-  cut_by : (known : Option Fault) (cut : ReadFault) → HasPlace old new had left (FaultyItem (ended_by known (cut_fault cut)) (item_of_cut known cut).1)
-      (place_by known place (place_from new.at.used new.at.used))
-      → HasPlace old new had left (FaultyItem (item_of_cut known cut).0 (item_of_cut known cut).1) (place_by known place (place_from new.at.used new.at.used))
+  cut_by : (known : Option Fault) (cut : ReadFault) → HasSpan old new had left (FaultyItem (ended_by known (cut_fault cut)) (item_of_cut known cut).1)
+      (span_by known span (span_from new.at.used new.at.used))
+      → HasSpan old new had left (FaultyItem (item_of_cut known cut).0 (item_of_cut known cut).1) (span_by known span (span_from new.at.used new.at.used))
   cut_by (Some fault) cut h = h
   cut_by None cut h = h
 
-  -- the place of a block in which the input is cut
-  pub cut_placed : (now : Place) → now ≡ place_by block.fault place (place_from new.at.used new.at.used) → (cut : ReadFault)
-      → HasPlace old new had left (FaultyItem (item_of_cut block.fault cut).0 (item_of_cut block.fault cut).1) now
-  cut_placed now is cut = rw is (cut_by block.fault cut (end_by block.fault refl (cut_fault cut) (item_of_cut block.fault cut).1))
+  -- the span of a block in which the input is cut
+  pub cut_spanned : (now : Span) → now ≡ span_by block.fault span (span_from new.at.used new.at.used) → (cut : ReadFault)
+      → HasSpan old new had left (FaultyItem (item_of_cut block.fault cut).0 (item_of_cut block.fault cut).1) now
+  cut_spanned now is cut = rw is (cut_by block.fault cut (end_by block.fault refl (cut_fault cut) (item_of_cut block.fault cut).1))

@@ -1,7 +1,7 @@
 use Rattle.pop_text.proofs.Basics.{Uses, ap, arith, inl, inr, is_in_word, not, subst, sym, true, ◌++◌, ◌∙◌, ◌≡◌}
 use Rattle.std.proofs.lemmas.Result.{err_from_is_err_and}
 use Rattle.pop_text.proofs.Using.{calls_none, calls_then, kept_of_run, more_so_far, none_so_far, run_more, run_over, seen_so_far}
-use Rattle.pop_text.proofs.scanner.Scanner.take_run.Goals as goal
+use Rattle.pop_text.proofs.scanner.Scanner.read_run.Goals as goal
 
 pub loop-byte-init : goal.loop-byte-init
 loop-byte-init g c = record {
