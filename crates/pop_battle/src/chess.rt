@@ -105,14 +105,14 @@ pub(crate) fn find_mate<R: Rules>(killer: MovePlace, board: &mut Board) -> Optio
     ensures place { IfSome result (λ place. IsOnMate R.rule board.old place) }
 {
     let before = killer.previous();
-    let mut cursor = mate_cursor::<R>(board);
-    cursor.go_to(before);
-    if cursor.next(board).is_some() {
-        return Some(cursor.place());
+    let mut mates = mate_cursor::<R>(board);
+    mates.go_to(before);
+    if mates.next(board).is_some() {
+        return Some(mates.place());
     }
-    cursor.go_to(MovePlace::start());
-    if cursor.next_until(before, board).is_some() {
-        return Some(cursor.place());
+    mates.go_to(MovePlace::start());
+    if mates.next_until(before, board).is_some() {
+        return Some(mates.place());
     }
     None
 }
