@@ -1,5 +1,5 @@
 -- A plan is found by the search.
-use Rattle.chess_attacks.proofs.Chess.{Bool, Colour, King, List, Man, Nightrider, None, Option, Some, White, all_at, and_from, and_left, and_parts, and_right, ap, arith, bit_and, bit_at, cases_Bool, cases_lt, cond-false, cond-true, eq-eqb, false, false≢true, get_or_past, if◌then◌else◌, inl, inr, is_man, is_of_colour, is_square, length, list_all, list_any, man_on, not, other, queen_steps, range_with_len, refl, same_colour-true, same_kind-true, subst, sym, true, word, word_has, word_only, ℕ, ◌%◌, ◌*◌, ◌+◌, ◌-◌, ◌<◌, ◌==◌, ◌^◌, ◌∙◌, ◌≡◌, ◌≢◌, ◌≤◌}
+use Rattle.chess_attacks.proofs.Chess.{Bool, Colour, King, List, Man, None, Option, Some, White, all_at, and_from, and_left, and_parts, and_right, ap, arith, bit_and, bit_at, cases_Bool, cases_lt, cond-false, cond-true, eq-eqb, false, false≢true, get_or_past, if◌then◌else◌, inl, inr, is_man, is_of_colour, is_square, length, list_all, list_any, man_on, not, other, queen_steps, range_with_len, refl, same_colour-true, same_kind-true, subst, sym, true, word, word_has, word_only, ℕ, ◌%◌, ◌*◌, ◌+◌, ◌-◌, ◌<◌, ◌==◌, ◌^◌, ◌∙◌, ◌≡◌, ◌≢◌, ◌≤◌}
 unfoldable use Rattle.chess_attacks.proofs.Chess.{along, king_square, leaps, reaches_as, squares}
 use Rattle.std.proofs.Common.{slice_index_or}
 use Rattle.std.specs.List.{sum_by}
@@ -27,7 +27,7 @@ use Rattle.chess_reach.specs.ties.Guards.{AreBlocks, AreGuards, CanEnd, StaysAwa
 use Rattle.chess_reach.specs.ties.Hold.{Captures, DoesCheck, DoesDefend, DoesGuard, Holds, IsApart, IsHeld, IsIn, IsQuestOf, blocks_in, end_at, post_at}
 unfoldable use Rattle.chess_reach.specs.ties.Hold.{blocked, unpaid}
 use Rattle.chess_reach.specs.ties.Whereabouts.{has}
-use Rattle.chess_reach.specs.ties.Ways.{IsChain, IsUsual, nowhere}
+use Rattle.chess_reach.specs.ties.Ways.{IsChain, IsUsual, is_unfollowed, nowhere}
 use Rattle.pop_stipulation.specs.declared.stipulation.Goal.{Goal}
 use Rattle.pop_stipulation.specs.declared.stipulation.Goal.TheVariants.{Mate}
 
@@ -349,15 +349,15 @@ king_near goal sc rb p c d ours theirs k from ends chain enemy plan stands small
     own_colour : (x : Colour) → is_of_colour (Some (record { colour = x; kind = King })) x ≡ true
     own_colour x = grind arith
 
--- promotion to nightrider apart, pawns promote as usual
-pub usual_promotion : (p : Position) → may_promote p Nightrider ≡ false → IsUsual (may_promote p)
-usual_promotion p h = record { king = refl; pawn = refl; rider = h }
+-- where each promotion is followed, pawns promote as usual
+pub usual_promotion : (p : Position) → ((k : Kind) → is_unfollowed k ≡ true → may_promote p k ≡ false) → IsUsual (may_promote p)
+usual_promotion p h = record { king = refl; pawn = refl; followed = h }
 
 -- the quest of a position
 pub quest_of : (prey : ℕ) (p : Position) (c d : Colour) (ours m theirs : ℕ) (gs : List Guard) (count : ℕ) (ws : List ℕ) (ending : Ending) (from at : ℕ) (chain : List Whereabouts) → d ≡ other c
     → length p.men ≡ 64 → theirs < 9 → AreGuards ending.are_reborn prey p.men c m gs count → ours ≤ m
     → ((allowed : Kind → Bool) → IsUsual allowed → AreBlocks ending.are_reborn allowed p.men d theirs ws)
-    → may_promote p Nightrider ≡ false → king_square p.men d ≡ Some from → from < 64 → IsChain ending.are_reborn (2 ^ 64 - 1) (record { colour = d; kind = King }) from theirs chain
+    → ((k : Kind) → is_unfollowed k ≡ true → may_promote p k ≡ false) → king_square p.men d ≡ Some from → from < 64 → IsChain ending.are_reborn (2 ^ 64 - 1) (record { colour = d; kind = King }) from theirs chain
     → IsQuestOf prey p (record { ending = ending; colour = c; king = at; count = count; guards = gs; blockable = ws }) (record { kind = King; from = from; chain = chain }) ours theirs
 quest_of prey p c d ours m theirs gs count ws ending from at chain enemy size few guards le blocks plain stands small way = record {
   size = size;

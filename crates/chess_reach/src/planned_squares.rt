@@ -1,16 +1,17 @@
 //! The squares for which there may be a plan.
 ghost use Rattle.std.specs.Prelude.{◌≡◌, ◌-◌, ◌^◌, ◌<◌, ◌≤◌, false, ◌==◌, ℕ, true, List, Option, MatchOption, slice_index_or, ◌⊎◌};
 ghost use Rattle.std.specs.Int.{bit_at};
-ghost use Rattle.chess_core.specs.Position.{Position, other};
+ghost use Rattle.chess_core.specs.Position.{Position, may_promote, other};
 ghost use Rattle.chess_core.specs.WellFormed.{IsWellFormed};
 ghost use Rattle.chess_reach.specs.Plans.{Ends, IsPlan, captures_to};
 ghost use Rattle.chess_core.specs.declared.man.Colour.TheVariants.{White};
+ghost use Rattle.chess_core.specs.declared.man.Kind.{Kind};
 ghost use Rattle.chess_core.specs.declared.man.Kind.TheVariants.{King};
 ghost use Rattle.chess_core.specs.declared.man.Man.{Man};
 ghost use Rattle.chess_reach.specs.Reach.{guards};
 ghost use Rattle.chess_reach.specs.ties.Guards.{guard_at, is_blocker};
 ghost use Rattle.chess_reach.specs.ties.Hold.{Captures, Holds, IsApart, IsQuestOf, post_at};
-ghost use Rattle.chess_reach.specs.ties.Ways.{nowhere};
+ghost use Rattle.chess_reach.specs.ties.Ways.{is_unfollowed, nowhere};
 
 use crate::blocks::{Blocks, all_blockable, blocks_of};
 use crate::guards::{Guard, MEN, list_guards};
@@ -201,6 +202,16 @@ fn may_lure(theirs: usize, prey: Squares, lures: Squares, left: Squares) -> bool
     theirs != 0 && lures != prey && left != 0
 }
 
+// Returns whether a pawn may promote to a kind whose promotion isn't followed.
+fn may_promote_unfollowed(board: &Board) -> bool
+    ensures none { result ≡ false → (k : Kind) → is_unfollowed k ≡ true
+        → may_promote board.now k ≡ false }
+    ensures some { result ≡ true → (k : Kind) × (is_unfollowed k ≡ true)
+        × (may_promote board.now k ≡ true) }
+{
+    board.may_promote(Kind::Nightrider)
+}
+
 /// Returns the part of `squares` on which the king of the side to be mated may end by a plan: the mating
 /// side makes at most `ours` moves, the other at most `theirs`. It leaves out a square only if there is no plan.
 pub(crate) fn planned_squares(
@@ -216,7 +227,7 @@ pub(crate) fn planned_squares(
         → IsPlan ending.goal ending.standing_checks ending.are_reborn board.now mating ours theirs k ends
         → (bit_at squares k == 1) ≡ true → (bit_at result k == 1) ≡ true }
 {
-    if ours >= MOVES - 1 || theirs >= MOVES || board.may_promote(Kind::Nightrider) {
+    if ours >= MOVES - 1 || theirs >= MOVES || may_promote_unfollowed(board) {
         return squares;
     }
     let colour = mating.other();
