@@ -59,7 +59,12 @@ module _ (men after : List (Option Man)) (a b s t k : ℕ) (z : Man) (c : Colour
   shift_second : IsShift mid after s t z
   shift_second = record {
     vacated = λ q none ne. grind (arith, g, cases_eq q a, cases_eq q b, left_now men a None b z q, kept_now men a None b z q, or_parts, eq-eqb, differs);
-    others = λ q v there ne. grind (arith, g, cases_eq q b, there_now men a None b z inside, kept_now men a None b z q, differs);
+    others = λ q v there ne. elim (cases_eq q b) [
+      | inl same ↦ ap (man_on mid) same ∙ there_now men a None b z inside ∙ sym g.first ∙ ap (man_on after) (sym same) ∙ there
+      | inr away ↦
+          let (off, (beside, kept)) = g.others q v there away ne in
+          kept_now men a None b z q away (ap (λ e. e || is_square None q) (differs a q (λ e. off (sym e)))) ∙ kept
+    ];
     arrived = λ y there. grind (arith, g);
   }
 
