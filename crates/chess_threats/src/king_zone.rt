@@ -166,7 +166,8 @@ fn landings_among(king_attack: &KingAttack, king: Square, squares: Squares) -> L
     }
 }
 
-// Returns the hop targets of a king on `king`.
+// Returns the squares next to a king on `king` that hoppers reach only over an arriving man, with the springboards of
+// these squares and of its own.
 pub(crate) fn hop_targets_of(king_attack: &KingAttack, king: Square) -> HopTargets
     ensures { AreHopTargets king_attack.now king result }
 {

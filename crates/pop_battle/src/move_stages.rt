@@ -86,7 +86,7 @@ fn next_of_move_stage<R: Rules>(
     None
 }
 
-/// Returns whether the place is that of a killer.
+/// Returns whether the move at this place is one of the two killers, which have stages of their own.
 fn is_killer(order: Order, place: MovePlace) -> bool
     ensures { result ≡ (place == order.killer || place == order.earlier) }
 {

@@ -255,7 +255,8 @@ pub fn safety_from(
     }
 }
 
-/// Returns the safety of the colour's king.
+/// Returns which enemy men reach the colour's king, and from which squares a move may expose it; no squares without
+/// a king.
 #[tactic(auto, using(crate::proofs::Blocking::checkers_none, crate::proofs::Blocking::blocker_squares_none))]
 #[inline(always)]
 pub fn king_safety(board: &Board, colour: Colour) -> KingSafety
