@@ -1,7 +1,7 @@
 -- Castling that opens no line to the enemy king gives check only by its rook.
 use Rattle.chess_flights.proofs.Chess.{Bishop, Bool, Colour, Direction, East, Grasshopper, IsCastle, IsCovered, IsMade, IsShift, IsWellFormed, Kind, King, List, Man, Move, Nightrider, None, North, NorthEast, NorthWest, Option, Pawn, Position, Queen, Rook, RuleSet, Some, South, SouthEast, SouthWest, Step, Straight, West, [], agree_below, agree_below_at, all_at, along, and_from, and_left, and_parts, any_kept, ap, arith, arrived, back, can_castle, cases_eq, castle_of, cond-true, corner, corner_stays, covered_parts, enemy, eq-eqb, eqb-true, false, false_from_ne_true, false≢true, frees, goes_on, gone_shift, halfway, hops, implied, in_check, inl, inr, is_ahead, is_castling, is_clear, is_diagonal, is_man, is_of_colour, is_on_some, is_reached, is_some, is_square, is_vacant, king_is, king_no_step, king_square, king_stays_king, length-set, line_before, list_all, list_any, man_on, man_on-with_same, man_there, may_castle, may_check_from, may_expose, may_expose_at, may_be_hurdle, moved_men, no_capture, not, not_attacked, not_parted, onward, or_cases, or_left, or_parts, other, passes, position_after, range_with_len, reaches, reaches_as, refl, return_square, rides, rules, same_colour, same_kind, same_kind-true, some_square_false, some_square_true, square_is, squares_between, step_of, stood, straight_steps, sym, true, unreached, unreborn_after, ways, with_man, without_man, ℕ, ◌&&◌, ◌+◌, ◌-◌, ◌<◌, ◌==◌, ◌||◌, ◌∙◌, ◌∷◌, ◌≡◌, ◌≢◌, ◌≤◌, ◌⊎◌, is_attacked, king_there}
-use Rattle.chess_rules.proofs.making_moves.Castles.{no_man}
-use Rattle.chess_rules.proofs.legality.FairyLines.{Holds, IsBeside, IsNoHurdle, hop_kept, ride_kept}
+use Rattle.chess_rules.proofs.Castles.{no_man}
+use Rattle.chess_rules.proofs.FairyLines.{Holds, IsBeside, IsNoHurdle, hop_kept, ride_kept}
 use Rattle.chess_attacks.proofs.rays.Lined.{knight_directions, queen_directions}
 use Rattle.chess_attacks.proofs.rays.Parting.{Frees}
 

@@ -13,18 +13,18 @@ pub use Rattle.chess_flights.specs.ties.Mates.{is_mating, mates_after}
 unfoldable pub use Rattle.chess_flights.specs.ties.Mates.{mates}
 pub use Rattle.chess_attacks.proofs.Bits.{off_left, off_right, on_left, on_right, word_has, off_zero}
 pub use Rattle.chess_attacks.proofs.Tests.{any_kept, implied}
-pub use Rattle.chess_rules.proofs.legality.Exposing.{king_is_after, king_stays_king, IsSimple, captures_arrival, check_is}
-pub use Rattle.chess_rules.proofs.legality.Seeing.{king_stands, there_now, gone_to, is_occupied_after, kept_now, left_now, no_man, occupied_now, occupied_words}
-pub use Rattle.chess_rules.proofs.legality.Blocking.{arriving_colour, king_is, man_there, moved_plainly, not_attacked, other_differs, other_twice, simple_after, unreborn_after, IsCovered, IsShift, covered_parts, frees, gone_shift, line_before, not_parted, stood, unreached}
-pub use Rattle.chess_rules.proofs.legality.StayingInCheck.{king_there}
+pub use Rattle.chess_rules.proofs.Exposing.{king_is_after, king_stays_king, IsSimple, captures_arrival, check_is}
+pub use Rattle.chess_rules.proofs.Seeing.{king_stands, there_now, gone_to, is_occupied_after, kept_now, left_now, no_man, occupied_now, occupied_words}
+pub use Rattle.chess_rules.proofs.Blocking.{arriving_colour, king_is, man_there, moved_plainly, not_attacked, other_differs, other_twice, simple_after, unreborn_after, IsCovered, IsShift, covered_parts, frees, gone_shift, line_before, not_parted, stood, unreached}
+pub use Rattle.chess_rules.proofs.StayingInCheck.{king_there}
 pub use Rattle.chess_rules.proofs.LegalMoves.{may_be_made}
-pub use Rattle.chess_rules.proofs.listing_moves.Places.{met_after-end, met_after-here, met_after-none, moves_after-start}
-pub use Rattle.chess_rules.proofs.listing_moves.Targeting.{every_square_on, false_by, no_pawn_arrives}
-pub use Rattle.chess_rules.proofs.listing_moves.Walks.{on_first}
-pub use Rattle.chess_rules.proofs.making_moves.Fits.{arrived, arrived_other, arriving_king, can_move, capture_of_piece, castle_of, corner_stays, king_no_step, no_capture, pawn_is_no_king, taken}
-pub use Rattle.chess_rules.proofs.making_moves.Pseudo.{IsCastle, IsMade, king_is_no_pawn, made, pawn_steps_to, ways}
+pub use Rattle.chess_rules.proofs.Places.{met_after-end, met_after-here, met_after-none, moves_after-start}
+pub use Rattle.chess_rules.proofs.Targeting.{every_square_on, false_by, no_pawn_arrives}
+pub use Rattle.chess_rules.proofs.Walks.{on_first}
+pub use Rattle.chess_rules.proofs.Fits.{arrived, arrived_other, arriving_king, can_move, capture_of_piece, castle_of, corner_stays, king_no_step, no_capture, pawn_is_no_king, taken}
+pub use Rattle.chess_rules.proofs.Pseudo.{IsCastle, IsMade, king_is_no_pawn, made, pawn_steps_to, ways}
 pub use Rattle.chess_attacks.proofs.rays.OnSquares.{on_board}
-pub use Rattle.chess_rules.proofs.making_moves.Stays.{after_well_formed, maker, man_on-with_cases, move_man_other, reborn_is}
+pub use Rattle.chess_rules.proofs.Stays.{after_well_formed, maker, man_on-with_cases, move_man_other, reborn_is}
 pub use Rattle.chess_attacks.proofs.rays.Ends.{square_is, back, return_square}
 pub use Rattle.chess_attacks.proofs.rays.Flips.{king-back, reaches_back}
 pub use Rattle.chess_attacks.proofs.Basics.{Bool, List, None, Option, Some, [], agree_below, agree_below_at, and_from, and_left, and_parts, and_right, ap, arith, bit_and, bit_at, bit_at-lt, bit_at_and, bit_at_or, bit_not, bit_or, cases_Bool, cases_eq, cases_lt, cond-false, cond-true, eq-eqb, eqb-true, false, false_from_ne_true, false≢true, find, if◌then◌else◌, inl, inr, is_some, length, length-set, list_all, list_any, list_any-append, not, not-true, or_cases, or_from, or_left, or_parts, or_right, range_with_len, refl, rules, subst, suc, sym, true, w64, zero, ℕ, ◌%◌, ◌&&◌, ◌*◌, ◌+◌, ◌-◌, ◌/◌, ◌<◌, ◌==◌, ◌^◌, ◌||◌, ◌∙◌, ◌∷◌, ◌≡◌, ◌≢◌, ◌≤◌, ◌⊎◌}

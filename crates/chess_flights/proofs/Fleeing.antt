@@ -1,6 +1,6 @@
 -- A flight after a move, decided by the men that then attack it.
 use Rattle.chess_flights.proofs.Chess.{AreOpen, AreSteps, Bool, Colour, IsMade, IsSafe, IsSeenFrom, IsSimple, IsWellFormed, King, List, Man, Move, None, Option, Position, RuleSet, Some, StandAlike, after_well_formed, and_from, and_left, and_parts, and_right, any_range_cases, any_range_false, arith, arrived, arriving_colour, arriving_king, arriving_man, bit_and, bit_at, bit_at-lt, bit_at_and, bit_not, bit_or, capture_of_piece, capture_square, captures_arrival, captures_are_reborn, cases_Bool, cases_eq, check_is, cond-false, cond-true, eq-eqb, eqb-true, false, false_from_ne_true, false≢true, first_of_and, gone_to, has_flight, inl, inr, is_arrival_free, is_attacked, is_flight, is_flight_at, is_legal, is_man, is_mate, is_nil, is_of_colour, is_open, is_paralysed, is_pseudo_legal, is_reached, is_some, is_square, kept_now, king_is_no_pawn, king_no_step, king_square, king_stands, king_there, leaps, left_now, length, list_any, made, man_on, man_there, mates, moves, moves_are_the_legal_triples, no_capture, no_reach_there, not, not-true, not_attacked, occupied_now, occupied_squares, on_first, or_cases, or_left, or_parts, other, other_differs, other_twice, position_after, queen_steps, reaches, reaches_alike, reaches_as, reaches_of, refl, rules, same_colour, same_colour-true, same_kind, side_of, occupancy_lifted, simple_after, some_square, some_square_same, some_square_true, square_is, squares, squares_both, squares_either, squares_not, squares_of, sym, taken, there_now, true, w64, without_man, word, word_has, ℕ, ◌&&◌, ◌<◌, ◌==◌, ◌||◌, ◌∙◌, ◌≡◌, ◌≢◌}
-use Rattle.chess_rules.proofs.listing_moves.TripleNumbers.{nothing_in}
+use Rattle.chess_rules.proofs.TripleNumbers.{nothing_in}
 use Rattle.chess_flights.proofs.Mating.{turn_after}
 use Rattle.chess_flights.proofs.Stepping.{IsStep, arrival_alike, lifted_alike, lifted_words, occupied_lifted, same_elsewhere, seen_stepped, stands_arrived, stepped}
 

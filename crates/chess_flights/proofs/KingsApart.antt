@@ -2,7 +2,7 @@
 use Rattle.chess_flights.proofs.Chess.{CanCastle, IsMade, IsWellFormed, King, Man, Move, Position, RuleSet, Some, after_well_formed, and_from, and_parts, arith, arrived, arrived_other, can_move, capture_square, cases_Bool, corner, false, false≢true, halfway, in_check, inl, inr, is_attacked, is_attacker, is_castling, is_legal, is_pseudo_legal, may_be_made, king-back, king_is, king_square, king_stays_king, made, man_on, man_on-without_other, man_on_at, may_check_from, move_man_other, moved_men, moved_plainly, not-true, other, other_differs, position_after, reaches_as, reborn_is, reborn_square, same_colour-refl, same_kind, same_kind-true, some_square_true, sym, taken, true, ℕ, ◌<◌, ◌∙◌, ◌≡◌}
 use Rattle.chess_flights.proofs.Fleeing.{IsKingOn, king_is_able, king_on, no_king_square, steps_there}
 use Rattle.chess_flights.proofs.Standing.{stood_reborn, after_is}
-use Rattle.chess_rules.proofs.making_moves.Returns.{moved_arrival}
+use Rattle.chess_rules.proofs.Returns.{moved_arrival}
 
 module _ (rule : RuleSet) (p : Position) (x : Man) (m : Move) (well : IsWellFormed p) (is : IsMade rule p x m) where
   stays_after : (s : ℕ) (z : Man) → man_on (moved_men p x m) s ≡ Some z → man_on (position_after rule p m).men s ≡ Some z

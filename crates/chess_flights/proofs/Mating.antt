@@ -1,6 +1,6 @@
 -- The moves that mate.
 use Rattle.chess_flights.proofs.Chess.{Move, Position, RuleSet, [], and_left, and_right, arith, cases_Bool, false, in_check, is_legal, is_legal-idle, is_mate, is_mating, is_pseudo_legal, may_be_made, maker, mates, mates_after, moves_after-start, not-true, other, position_after, position_after_by, refl, rules, true, ℕ, ◌∷◌, ◌≡◌, Bool, IsWellFormed, List, list_all, moves, moves_are_the_legal_moves}
-use Rattle.chess_rules.proofs.listing_moves.Members.{in_cases, none_in_nil}
+use Rattle.chess_rules.proofs.Members.{in_cases, none_in_nil}
 use Rattle.chess_rules.specs.Legal.{triples}
 use Rattle.chess_rules.specs.ties.Places.{moves_after, moves_between}
 unfoldable use Rattle.chess_rules.specs.ties.Places.{met_after, met_between}

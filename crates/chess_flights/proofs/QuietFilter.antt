@@ -10,7 +10,7 @@ use Rattle.chess_flights.proofs.Stepping.{IsStep, on_flight, on_left, on_others,
 use Rattle.chess_flights.specs.ties.QuietSteps.{AreQuiet, IsStepLeft, must_reply_with_mate, occupancy_without}
 use Rattle.chess_flights.specs.ties.FreeSteps.{GoesSimply, NoneHops}
 use Rattle.chess_flights.proofs.Bitboards.{on_denied}
-use Rattle.chess_rules.proofs.making_moves.Plays.{stays_empty}
+use Rattle.chess_rules.proofs.Plays.{stays_empty}
 use Rattle.chess_attacks.proofs.rays.Tables.{king_step_is_no_castling}
 use Rattle.chess_rules.specs.Play.{is_castling}
 

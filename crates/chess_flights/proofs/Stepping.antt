@@ -1,6 +1,6 @@
 -- The men after a man's move and a step of the enemy king, and what they attack.
 use Rattle.chess_flights.proofs.Chess.{DescribesMen, Colour, Kind, List, Man, None, Option, Some, StandAlike, and_left, and_right, arith, cases_Bool, cases_eq, differs, eq-eqb, eqb-true, false, false_from_ne_true, gone_to, inl, inr, is_man, is_occupied_after, is_of_colour, is_some, is_square, kept_now, left_now, length, length-set, man_on, man_on-with_other, man_on-without_other, man_on-without_same, no_man, not, occupied_now, occupied_squares, occupied_words, or_from, or_left, rules, same_colour, occupancy_lifted, occupancy_with, squares_both, squares_either, squares_not, squares_of, there_now, true, without_man, word, ℕ, ◌&&◌, ◌<◌, ◌==◌, ◌||◌, ◌≡◌, ◌≢◌}
-use Rattle.chess_rules.proofs.making_moves.Plays.{length-without_at}
+use Rattle.chess_rules.proofs.Plays.{length-without_at}
 
 -- the men once z has come from a to b and the man on o is gone, and then x from k to t and the man on u is gone
 abbrev pub stepped : List (Option Man) → ℕ → Option ℕ → ℕ → Man → ℕ → Option ℕ → ℕ → Man → List (Option Man)

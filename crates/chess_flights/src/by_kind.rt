@@ -73,7 +73,7 @@ pub fn for_all<T: Copy>(value: T) -> ByKind<T>
     }
 }
 
-/// Returns the value for this kind.
+/// Returns the field that is named after this kind.
 #[inline(always)]
 pub fn value_for<T: Copy>(values: &ByKind<T>, kind: Kind) -> T
     ensures { result ≡ value_for values.now kind }

@@ -3,7 +3,7 @@ use Rattle.chess_mates.proofs.Chess.{Man, Move, Position, Some, and_left, arith,
 use Rattle.chess_attacks.specs.ties.Lines.{AreReached}
 use Rattle.chess_mates.specs.ties.Aims.{aims_at_king}
 use Rattle.chess_rules.proofs.Chess.{second_fails}
-use Rattle.chess_rules.proofs.listing_moves.Filtering.{kept_after}
+use Rattle.chess_rules.proofs.Filtering.{kept_after}
 
 -- a man other than a fairy man doesn't attack the king from where it wouldn't reach it on any board
 pub never_aimed : (p : Position) (m : Move) (x : Man) (k w : ℕ) → man_on p.men m.from ≡ Some x → king_square p.men (other p.turn) ≡ Some k → k < 64

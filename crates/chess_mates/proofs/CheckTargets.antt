@@ -1,6 +1,6 @@
 -- A move that doesn't arrive where its man may give check gives none.
 use Rattle.chess_mates.proofs.Chess.{AreCastlingTargets, AreCheckSquares, AreCheckTargets, CheckSquares, Colour, IsMade, IsWellFormed, King, Man, Move, Pawn, Position, Rook, RuleSet, Some, and_parts, ap, are_rebirths_quiet, arith, arrival_needed, bit_at, bit_or, cannot_expose, captures_are_reborn, cases_Bool, castling_steps, value_for, enemy, false, false_by, halfway, in_check, inl, inr, is_castling, is_pseudo_legal, may_be_made, is_some, is_square, is_two_files_aside, made, man_on, may_check_from, may_expose, may_arrive, may_go_aimed, may_be_hurdle, off_left, off_right, other, position_after, refl, rules, same_kind, steps_to, sym, true, word, word_has, ℕ, ◌+◌, ◌/◌, ◌<◌, ◌==◌, ◌∙◌, ◌≡◌, List, Option, rule_of_checks, is_promoting, arriving_man, arrived, other_twice, false≢true, Bool, Kind, along-is, bit_and, off_second, or_cases, ◌%◌, ◌*◌, ◌^◌, ◌⊎◌}
-use Rattle.chess_rules.proofs.legality.EvasionTargets.{plain_elsewhere}
+use Rattle.chess_rules.proofs.EvasionTargets.{plain_elsewhere}
 use Rattle.chess_flights.proofs.CastlingChecks.{castling_gives_no_check}
 use Rattle.chess_flights.proofs.Becoming.{becomes}
 use Rattle.chess_flights.proofs.KingsApart.{kings_apart}

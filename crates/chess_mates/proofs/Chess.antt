@@ -15,13 +15,13 @@ pub use Rattle.chess_flights.specs.ties.Flights.{AreUnsafe}
 pub use Rattle.chess_mates.specs.ties.KnownFlights.{IsFlightless, IsUnreached}
 pub use Rattle.chess_mates.specs.ties.MatingPlaces.{IsNextMate}
 pub use Rattle.chess_attacks.proofs.Tests.{all_kept, some_is}
-pub use Rattle.chess_rules.proofs.legality.Exposing.{exposed_is}
-pub use Rattle.chess_rules.proofs.legality.Blocking.{cannot_expose_parts, plain_safe}
-pub use Rattle.chess_rules.proofs.listing_moves.Arrivals.{may_go_aimed}
-pub use Rattle.chess_rules.proofs.listing_moves.Places.{place_of_triple}
-pub use Rattle.chess_rules.proofs.listing_moves.Targeting.{arrival_needed, castling_steps, own_moves}
-pub use Rattle.chess_rules.proofs.listing_moves.Walks.{off_second}
-pub use Rattle.chess_rules.proofs.making_moves.Stays.{captured_enemy, captured_mortal, moved_sound}
+pub use Rattle.chess_rules.proofs.Exposing.{exposed_is}
+pub use Rattle.chess_rules.proofs.Blocking.{cannot_expose_parts, plain_safe}
+pub use Rattle.chess_rules.proofs.Arrivals.{may_go_aimed}
+pub use Rattle.chess_rules.proofs.Places.{place_of_triple}
+pub use Rattle.chess_rules.proofs.Targeting.{arrival_needed, castling_steps, own_moves}
+pub use Rattle.chess_rules.proofs.Walks.{off_second}
+pub use Rattle.chess_rules.proofs.Stays.{captured_enemy, captured_mortal, moved_sound}
 pub use Rattle.chess_attacks.proofs.rays.Flips.{diagonal-back, straight-back}
 pub use Rattle.chess_attacks.proofs.Basics.{append_cancel_right, filter, filter-append, or_lt, true_from_ne_false, ◌++◌}
 pub use Rattle.chess_attacks.proofs.HoldTaken.{taken_all}

@@ -2,8 +2,8 @@
 use Rattle.chess_mates.proofs.Chess.{IsNextMate, Move, None, Option, Position, RuleSet, Some, arith, first_of_and, is_legal, is_mating, mates, second_of_and, true, ℕ, ◌+◌, ◌-◌, ◌<◌, ◌≡◌}
 use Rattle.std.specs.Prelude.{IfSome}
 use Rattle.chess_flights.proofs.Mating.{mates_between-are}
-use Rattle.chess_rules.proofs.listing_moves.Between.{after_cut, between-none, between-over}
-use Rattle.chess_rules.proofs.listing_moves.Places.{met_after-here}
+use Rattle.chess_rules.proofs.Between.{after_cut, between-none, between-over}
+use Rattle.chess_rules.proofs.Places.{met_after-here}
 use Rattle.chess_rules.specs.ties.Places.{IsNextMet, moves_between}
 
 -- a mating move is legal

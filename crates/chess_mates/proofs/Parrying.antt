@@ -1,8 +1,8 @@
 -- A man other than the king parries a check and opens no line to the king.
 use Rattle.chess_mates.proofs.Chess.{DescribesMen, Bishop, Black, Bool, Colour, Grasshopper, IsCovered, IsMade, IsShift, IsSimple, IsWellFormed, Kind, King, List, Man, Move, Nightrider, None, Option, Pawn, Position, Queen, Rook, RuleSet, Some, StandAlike, Step, White, after_well_formed, agree_below_at, along, and_from, and_left, and_parts, and_right, any_kept, any_range_cases, any_range_false, ap, arith, arrived, arriving_colour, arriving_man, attacked_plainly, bit_and, bit_at, bit_not, bit_or, can_castle, cannot_expose_parts, capture_square, captures_arrival, captures_are_reborn, cases_Bool, cases_eq, check_is, cond-false, cond-true, covered_parts, diagonal_steps, differs, eq-eqb, eqb-true, like_men_paralyse, false, false_from_ne_true, false≢true, forward, goes_on, gone_shift, gone_to, if◌then◌else◌, in_check, inl, inr, is_advance, is_ahead, is_arrival_free, is_attacked_at, is_legal, is_lined, is_man, is_mate, is_of_colour, is_on_fairy_line, is_on_fairy_line_at, is_on_some, is_paralysed, is_promoting, is_promotion_right, is_pseudo_legal, may_be_made, is_reached, is_blocking, is_some, is_square, kept_now, king_is, king_square, king_there, knight_steps, leaps, left_now, legal_moves_are_triples, length, length-set, list_any, made, maker, man_on, man_on-with_other, man_on-with_same, man_there, mates, may_castle, may_expose, may_expose_at, may_be_hurdle, no_capture, not, not-true, not_attacked, occupied_now, occupied_squares, off_second, off_zero, on_board, on_first, or_cases, or_left, or_parts, or_right, other, other_differs, other_twice, pawn_steps_to, position_after, position_after_by, queen_steps, reaches, refl, return_square, rules, same_colour, same_colour-refl, same_colour-true, same_kind, occupancy_after, simple_after, some_square, some_square_false, some_square_true, square_is, squares, squares_both, squares_either, squares_not, squares_of, squares_same, stood, straight_steps, subst, sym, there_now, true, true_from_ne_false, unreached, w64, with_man, word, word_has, ℕ, ◌&&◌, ◌<◌, ◌==◌, ◌||◌, ◌∙◌, ◌≡◌, ◌≢◌}
-use Rattle.chess_rules.proofs.legality.Blocking.{CannotExpose, IsPlain, IsQuiet, arrived_shift}
+use Rattle.chess_rules.proofs.Blocking.{CannotExpose, IsPlain, IsQuiet, arrived_shift}
 use Rattle.chess_flights.proofs.Fleeing.{king_waits, on_second, reaches_alike_of, seen_bit, unseen_bit}
-use Rattle.chess_rules.proofs.legality.Seeing.{IsCapture, seen_after}
+use Rattle.chess_rules.proofs.Seeing.{IsCapture, seen_after}
 use Rattle.chess_flights.proofs.Mating.{turn_after}
 use Rattle.chess_flights.proofs.Standing.{captured_there, stays_there, stood as stands_after}
 use Rattle.chess_mates.specs.ties.Parries.{AreBetween, AreParriesKnown, IsInterposed, IsParriless, IsShutBy, IsKnownBetween, IsUncaptured, IsWayBetween, NobodyComes, comes, is_on_line, is_unpinned}
@@ -13,7 +13,7 @@ use Rattle.chess_mates.proofs.StayingChecks.{advance_back, advances, frees_after
 use Rattle.chess_attacks.proofs.rays.Parting.{Frees}
 use Rattle.chess_rules.proofs.theorems.Moves.{mate_is}
 use Rattle.chess_core.proofs.Words.{some_square_known}
-use Rattle.chess_rules.proofs.making_moves.Plays.{length-without_at}
+use Rattle.chess_rules.proofs.Plays.{length-without_at}
 use Rattle.chess_rules.specs.Legal.{can_go, is_pawn_step}
 use Rattle.chess_flights.proofs.Hurdles.{on_one}
 
@@ -59,7 +59,12 @@ module _ (men after : List (Option Man)) (a b s t k : ℕ) (z : Man) (c : Colour
   shift_second : IsShift mid after s t z
   shift_second = record {
     vacated = λ q none ne. grind (arith, g, cases_eq q a, cases_eq q b, left_now men a None b z q, kept_now men a None b z q, or_parts, eq-eqb, differs);
-    others = λ q v there ne. grind (arith, g, cases_eq q b, there_now men a None b z inside, kept_now men a None b z q, differs);
+    others = λ q v there ne. elim (cases_eq q b) [
+      | inl same ↦ ap (man_on mid) same ∙ there_now men a None b z inside ∙ sym g.first ∙ ap (man_on after) (sym same) ∙ there
+      | inr away ↦
+          let (off, (beside, kept)) = g.others q v there away ne in
+          kept_now men a None b z q away (ap (λ e. e || is_square None q) (differs a q (λ e. off (sym e)))) ∙ kept
+    ];
     arrived = λ y there. grind (arith, g);
   }
 

@@ -1,11 +1,11 @@
 -- A man gives no check if it doesn't reach the king from its arrival and its move opens no line to the
 -- king.
 use Rattle.chess_mates.proofs.Chess.{Colour, IsMade, IsShift, IsWellFormed, List, Man, Move, None, Option, Position, RuleSet, Some, and_right, arith, arriving_man, arrived, bit_at, cannot_expose, cannot_expose_parts, capture_square, cases_Bool, cases_eq, covered_parts, eq-eqb, false, false≢true, gone_to, in_check, is_pseudo_legal, is_reached, is_square, king_square, king_there, length, length-set, made, man_on, man_on-with_other, man_on-with_same, may_expose, may_be_hurdle, not_attacked, occupied_now, occupied_squares, occupied_words, other, other_differs, position_after, reaches, reaches_as, refl, rules, occupancy_after, simple_after, squares_same, square_is, sym, there_now, true, unreached, with_man, word, word_has, ℕ, ◌<◌, ◌==◌, ◌∙◌, ◌≡◌}
-use Rattle.chess_rules.proofs.legality.Blocking.{CannotExpose, arrived_shift}
+use Rattle.chess_rules.proofs.Blocking.{CannotExpose, arrived_shift}
 use Rattle.chess_flights.proofs.Fleeing.{king_waits}
 use Rattle.chess_mates.proofs.Parrying.{unreached_instead}
 use Rattle.chess_flights.proofs.Standing.{captured_there}
-use Rattle.chess_rules.proofs.making_moves.Plays.{length-without_at}
+use Rattle.chess_rules.proofs.Plays.{length-without_at}
 
 -- the squares that are occupied once a man has gone to where it captures, if it captures
 occupied_there : (men : List (Option Man)) (a : ℕ) (o : Option ℕ) (b : ℕ) (z : Man) → ((s : ℕ) → is_square o s ≡ true → s ≡ b) → b < length men

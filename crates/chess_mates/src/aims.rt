@@ -87,7 +87,7 @@ impl MoveTest for Aimed {
 
     ghost fits = { λ s rule p. IsKnownIn rule p s.masks };
 
-    #[tactic(auto, using(chess_rules::proofs::listing_moves::Filtering::wanted_origins))]
+    #[tactic(auto, using(chess_rules::proofs::Filtering::wanted_origins))]
     fn origins<R: Rules>(&self, board: &Board) -> Squares {
         self.masks.origins::<R>(board)
     }
@@ -112,25 +112,25 @@ impl MoveTest for Aimed {
 /// it. After the last one it returns `None` and moves the cursor to the end. The cursor must belong to
 /// the board's position. The board is unchanged.
 #[tactic(auto, using(crate::proofs::Aiming::next_aimed))]
-pub fn next_aimed<R: Rules>(moves: &mut LegalCursor<R>, board: &mut Board) -> Option<Move>
+pub fn next_aimed<R: Rules>(cursor: &mut LegalCursor<R>, board: &mut Board) -> Option<Move>
     requires well_formed { IsWellFormed board.old }
-    requires place { IsPlaceIn R.rule board.old moves.old }
-    ensures place { moves.new ≡ record moves.old { place = place_of result } }
-    ensures within { IsPlaceIn R.rule board.old moves.new }
+    requires place { IsPlaceIn R.rule board.old cursor.old }
+    ensures place { cursor.new ≡ record cursor.old { place = place_of result } }
+    ensures within { IsPlaceIn R.rule board.old cursor.new }
     ensures rest { MatchOption result
-        (filter (aims_at_king board.old) (moves_after R.rule board.old moves.old.place) ≡ [])
-        (λ m. filter (aims_at_king board.old) (moves_after R.rule board.old moves.old.place)
-        ≡ m ∷ filter (aims_at_king board.old) (moves_after R.rule board.old moves.new.place)) }
+        (filter (aims_at_king board.old) (moves_after R.rule board.old cursor.old.place) ≡ [])
+        (λ m. filter (aims_at_king board.old) (moves_after R.rule board.old cursor.old.place)
+        ≡ m ∷ filter (aims_at_king board.old) (moves_after R.rule board.old cursor.new.place)) }
     ensures legal { IfSome result (λ m. is_legal R.rule board.old m ≡ true) }
-    ensures onward { IfSome result (λ m. moves.old.place < moves.new.place) }
+    ensures onward { IfSome result (λ m. cursor.old.place < cursor.new.place) }
     ensures board { board.new ≡ board.old }
 {
-    let aimed = Aimed {
-        masks: *moves.test(),
+    let test = Aimed {
+        masks: *cursor.test(),
     };
-    let mut cursor = Cursor::<R, Aimed>::over(aimed);
-    cursor.go_to(moves.place());
-    let next = cursor.next(board);
-    moves.go_to(cursor.place());
+    let mut aimed = Cursor::<R, Aimed>::over(test);
+    aimed.go_to(cursor.place());
+    let next = aimed.next(board);
+    cursor.go_to(aimed.place());
     next
 }

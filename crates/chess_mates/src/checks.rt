@@ -69,7 +69,7 @@ pub(crate) fn check_squares_of(board: &Board, colour: Colour, kind: Kind) -> Squ
 // Returns the squares from which a move may expose the colour's king. `straight` and `diagonal` are the
 // squares from which a rook and a bishop may give check to it, `lines` its fairy lines.
 #[inline(always)]
-#[tactic(auto, using(chess_rules::proofs::legality::Blocking::blocker_squares_none, crate::proofs::Checking::rook_squares, crate::proofs::Checking::bishop_squares))]
+#[tactic(auto, using(chess_rules::proofs::Blocking::blocker_squares_none, crate::proofs::Checking::rook_squares, crate::proofs::Checking::bishop_squares))]
 fn blockers_from(
     board: &Board,
     colour: Colour,
@@ -255,7 +255,7 @@ pub(crate) fn targets_off_blockers<R: Rules>(
 }
 
 // Returns a superset of the squares where a legal move of this man from `from` may give check.
-#[tactic(auto, using(chess_rules::proofs::listing_moves::Targeting::every_square_on))]
+#[tactic(auto, using(chess_rules::proofs::Targeting::every_square_on))]
 fn check_targets<R: Rules>(board: &Board, squares: &CheckSquares, man: Man, from: Square) -> Squares
     requires well_formed { IsWellFormed board.now }
     requires squares { AreCheckSquares board.now.men (other board.now.turn) squares.now }
@@ -271,7 +271,7 @@ fn check_targets<R: Rules>(board: &Board, squares: &CheckSquares, man: Man, from
 
 // Returns the check targets of the man on `from` that it could reach on some board; none if no man is
 // there.
-#[tactic(auto, using(chess_rules::proofs::listing_moves::Targeting::nobody_moves, crate::proofs::CheckTargets::targets_lack, chess_rules::proofs::listing_moves::Walks::off_second), unfolding(chess_rules::specs::Legal::is_legal))]
+#[tactic(auto, using(chess_rules::proofs::Targeting::nobody_moves, crate::proofs::CheckTargets::targets_lack, chess_rules::proofs::Walks::off_second), unfolding(chess_rules::specs::Legal::is_legal))]
 pub(crate) fn near_check_targets<R: Rules>(
     board: &Board,
     squares: &CheckSquares,

@@ -36,11 +36,11 @@ pub fn every_move_mates<R: Rules>(board: &mut Board) -> bool
     if steps_quietly::<R>(board, &squares) {
         return false;
     }
-    let moves = LegalCursor::<R>::of(board);
-    if has_quiet_move::<R>(board, &squares, moves) {
+    let cursor = LegalCursor::<R>::of(board);
+    if has_quiet_move::<R>(board, &squares, cursor) {
         return false;
     }
-    only_mates::<R>(board, moves)
+    only_mates::<R>(board, cursor)
 }
 
 // Returns the squares to which the king on `king` may step, whether attacked or not; none in Circe.
@@ -123,17 +123,17 @@ fn steps_quietly<R: Rules>(board: &Board, squares: &CheckSquares) -> bool
 fn has_quiet_move<R: Rules>(
     board: &mut Board,
     squares: &CheckSquares,
-    mut moves: LegalCursor<R>,
+    mut cursor: LegalCursor<R>,
 ) -> bool
     requires well_formed { IsWellFormed board.old }
     requires squares { AreCheckSquares board.old.men (other board.old.turn) squares.now }
-    requires place { IsPlaceIn R.rule board.old moves }
+    requires place { IsPlaceIn R.rule board.old cursor }
     ensures quiet { result ≡ true
-        → list_all (is_mating R.rule board.old) (moves_after R.rule board.old moves.place)
+        → list_all (is_mating R.rule board.old) (moves_after R.rule board.old cursor.place)
         ≡ false }
     ensures board { board.new ≡ board.old }
 {
-    while let Some(m) = moves.next(board) {
+    while let Some(m) = cursor.next(board) {
         if is_quiet::<R>(board, squares, m) {
             return true;
         }
@@ -153,15 +153,15 @@ fn is_quiet<R: Rules>(board: &Board, squares: &CheckSquares, m: Move) -> bool
 }
 
 // Returns whether there is a legal move after the cursor, and each one mates.
-fn only_mates<R: Rules>(board: &mut Board, mut moves: LegalCursor<R>) -> bool
+fn only_mates<R: Rules>(board: &mut Board, mut cursor: LegalCursor<R>) -> bool
     requires well_formed { IsWellFormed board.old }
-    requires place { IsPlaceIn R.rule board.old moves }
-    ensures answer { result ≡ (not (is_nil (moves_after R.rule board.old moves.place))
-        && list_all (is_mating R.rule board.old) (moves_after R.rule board.old moves.place)) }
+    requires place { IsPlaceIn R.rule board.old cursor }
+    ensures answer { result ≡ (not (is_nil (moves_after R.rule board.old cursor.place))
+        && list_all (is_mating R.rule board.old) (moves_after R.rule board.old cursor.place)) }
     ensures board { board.new ≡ board.old }
 {
     let mut some = false;
-    while let Some(m) = moves.next(board) {
+    while let Some(m) = cursor.next(board) {
         if !mates_by::<R>(board, m) {
             return false;
         }

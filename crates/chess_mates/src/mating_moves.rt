@@ -119,7 +119,7 @@ fn mate_targets<R: Rules>(board: &Board, clues: &MateClues, from: Square) -> Squ
 }
 
 // Returns the mate targets of the man on `from` to which it may go.
-#[tactic(auto, using(chess_rules::proofs::listing_moves::Walks::candidates, chess_rules::proofs::listing_moves::Walks::no_candidates, chess_flights::proofs::Mating::not_mating))]
+#[tactic(auto, using(chess_rules::proofs::Walks::candidates, chess_rules::proofs::Walks::no_candidates, chess_flights::proofs::Mating::not_mating))]
 fn candidates<R: Rules>(board: &Board, clues: &MateClues, from: Square) -> Squares
     requires well_formed { IsWellFormed board.now }
     requires clues { AreMateClues R.rule board.now clues.now }

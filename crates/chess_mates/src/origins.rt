@@ -16,7 +16,7 @@ use chess_rules::unplayed::unblocked_targets;
 
 // Returns the squares of the mover's men of this kind whose moves can't expose the enemy king.
 #[inline(always)]
-#[tactic(auto, using(chess_flights::proofs::Bitboards::man_of_word, chess_flights::proofs::Bitboards::off_denied, chess_rules::proofs::listing_moves::Walks::on_first))]
+#[tactic(auto, using(chess_flights::proofs::Bitboards::man_of_word, chess_flights::proofs::Bitboards::off_denied, chess_rules::proofs::Walks::on_first))]
 fn men_off_blockers(board: &Board, squares: &CheckSquares, kind: Kind) -> Squares
     ensures stands { (s : ℕ) → s < 64 → (bit_at result s == 1) ≡ true
         → man_on board.now.men s ≡ Some (own_man board.now kind) }

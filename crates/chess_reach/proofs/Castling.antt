@@ -4,11 +4,11 @@ use Rattle.chess_reach.proofs.Gone.{king_kept}
 use Rattle.chess_reach.specs.Plans.{king_home}
 use Rattle.chess_reach.proofs.OneMove.{IsGone, king_arrives, king_goes, king_stays, other_king_stays, other_step, own_step, stays, stood_before}
 use Rattle.chess_rules.proofs.Chess.{all_at, is_clear, is_home, length-set, list_all, man_on-without_none, squares_between, move_man}
-use Rattle.chess_rules.proofs.legality.Blocking.{unreborn_after}
-use Rattle.chess_rules.proofs.making_moves.Castles.{no_man}
+use Rattle.chess_rules.proofs.Blocking.{unreborn_after}
+use Rattle.chess_rules.proofs.Castles.{no_man}
 use Rattle.pop_stipulation.specs.declared.stipulation.Goal.{Goal}
-use Rattle.chess_rules.proofs.making_moves.Fits.{arrived, arriving_king, king_no_step, no_capture}
-use Rattle.chess_rules.proofs.making_moves.Pseudo.{IsMade, king_castles, king_is_no_pawn, made, ways}
+use Rattle.chess_rules.proofs.Fits.{arrived, arriving_king, king_no_step, no_capture}
+use Rattle.chess_rules.proofs.Pseudo.{IsMade, king_castles, king_is_no_pawn, made, ways}
 use Rattle.chess_rules.proofs.Chess.{can_castle, may_castle}
 
 -- a man of a colour and kind

@@ -1,5 +1,5 @@
 -- Where a man can be after one more move, and the chain of these.
-use Rattle.chess_attacks.proofs.Chess.{Bishop, Bool, Colour, Grasshopper, Kind, King, Knight, List, Man, Nightrider, Pawn, Queen, Rook, [], and_parts, ap, arith, bit_and, bit_at, bit_not, bit_or, cases_Bool, cases_eq, cond-false, cond-true, diagonal_steps, false, false≢true, if◌then◌else◌, inl, inr, list_any, list_any-append, on_left, on_right, or_left, or_right, length, rank_of, reaches_as, refl, rides, same_kind-true, straight_steps, subst, suc, sym, true, w64, zero, ℕ, ◌<◌, ◌==◌, ◌^◌, ◌∙◌, ◌≡◌, ◌≢◌, ◌≤◌}
+use Rattle.chess_attacks.proofs.Chess.{Bishop, Bool, Colour, Grasshopper, Kind, King, Knight, List, Man, Pawn, Queen, Rook, [], and_parts, ap, arith, bit_and, bit_at, bit_not, bit_or, cases_Bool, cases_eq, cond-false, cond-true, diagonal_steps, false, false_from_ne_true, false≢true, if◌then◌else◌, inl, inr, list_any, list_any-append, on_left, on_right, or_left, or_right, length, rank_of, reaches_as, refl, rides, same_kind-true, straight_steps, subst, suc, sym, true, w64, zero, ℕ, ◌<◌, ◌==◌, ◌^◌, ◌∙◌, ◌≡◌, ◌≢◌, ◌≤◌}
 use Rattle.std.proofs.Common.{slice_index_or, slice_set}
 use Rattle.std.proofs.lemmas.List.{get_or-set_other, get_or-set_same}
 use Rattle.chess_core.specs.Position.{same_kind}
@@ -10,7 +10,7 @@ unfoldable use Rattle.chess_reach.specs.Reach.{Gets, goes, guards, pawn_goes}
 use Rattle.chess_reach.specs.Reach.{without_hops}
 use Rattle.chess_reach.specs.declared.whereabouts.Whereabouts.{Whereabouts}
 use Rattle.chess_reach.specs.ties.Whereabouts.{has, part}
-use Rattle.chess_reach.specs.ties.Ways.{CanBe, IsChain, IsUsual, Leads, Rests, TakesOn, nowhere}
+use Rattle.chess_reach.specs.ties.Ways.{CanBe, IsChain, IsUsual, Leads, Rests, TakesOn, is_unfollowed, nowhere}
 
 -- a piece stays what it is
 pub piece_part : (k j : Kind) (w : Whereabouts) → same_kind k Pawn ≡ false → part k j w ≡ w.unpromoted
@@ -45,8 +45,8 @@ pawn_goes_on : (allowed : Kind → Bool) (takes : ℕ → Bool) (c : Colour) (i 
 unfolding goes
 pawn_goes_on allowed takes c i q j t pawn go = grind (arith, and_parts, go, pawn)
 
--- a queen guards what rooks, bishops and grasshoppers guard
-pub queen_guards : (c : Colour) (i : Kind) (q t : ℕ) → same_kind i Pawn ≡ false → same_kind i Knight ≡ false → i ≢ Nightrider → i ≢ King → guards c i q t ≡ true
+-- a queen guards what pieces guard to which a promotion is followed, other than knights
+pub queen_guards : (c : Colour) (i : Kind) (q t : ℕ) → same_kind i Pawn ≡ false → same_kind i Knight ≡ false → is_unfollowed i ≡ false → i ≢ King → guards c i q t ≡ true
     → reaches_as [] c Queen q t ≡ true
 unfolding guards reaches_as
 queen_guards c King q t p n r k h = absurd (k refl)
@@ -56,7 +56,7 @@ queen_guards c Bishop q t p n r k h = list_any-append (rides [] q t) straight_st
 queen_guards c Knight q t p n r k h = absurd (false≢true (sym n))
 queen_guards c Pawn q t p n r k h = absurd (false≢true (sym p))
 queen_guards c Grasshopper q t p n r k h = h
-queen_guards c Nightrider q t p n r k h = absurd (r refl)
+queen_guards c unfollowed q t p n r k h = absurd (false≢true (sym r))
 
 pub piece_guards : (c : Colour) (i : Kind) (q t : ℕ) → guards c i q t ≡ true → reaches_as [] c (without_hops i) q t ≡ true
 unfolding guards
@@ -139,7 +139,7 @@ module _ (prey : ℕ) (x : Man) (b : Whereabouts) (pawns last queens knights : �
               (piece_guards x.colour Knight q t (subst (λ k. guards x.colour k q t ≡ true) knight way.0))))
           | inr nor ↦ part_has x.kind i t after _ (queen_part x.kind i after is_pawn piece nor)
               (on_right _ _ t (rides_on q t sq st (has_part x.kind i q b _ (queen_part x.kind i b is_pawn piece nor) h)
-              (queen_guards x.colour i q t piece nor (be.rider is_pawn) (be.king is_pawn) way.0)))
+              (queen_guards x.colour i q t piece nor (be.followed is_pawn) (be.king is_pawn) way.0)))
         ])
 
     pub pawn_leads : Leads prey x b after
@@ -155,7 +155,7 @@ pub gets_be : (rb : Bool) (allowed : Kind → Bool) (takes : ℕ → Bool) (c : 
 unfolding Gets
 gets_be rb allowed takes c zero k s j t usual (same, there) = record {
   piece = λ h. sym same;
-  rider = λ h e. let is = same_kind-true k Pawn h in absurd (let bad : Pawn ≡ Nightrider = sym is ∙ same ∙ e in cc);
+  followed = λ h. ap is_unfollowed (sym same ∙ same_kind-true k Pawn h);
   king = λ h e. let is = same_kind-true k Pawn h in absurd (let bad : Pawn ≡ King = sym is ∙ same ∙ e in cc);
 }
 gets_be rb allowed takes c (suc n) k s j t usual (from, i, q, start, go, rest) =
@@ -164,9 +164,10 @@ gets_be rb allowed takes c (suc n) k s j t usual (from, i, q, start, go, rest) =
       | inr piece ↦ subst (λ x. CanBe x j) (sym (same_kind-true k i (piece_goes allowed takes c k from i q piece go).1)) later
       | inl pawn ↦ record {
         piece = λ h. absurd (false≢true (sym h ∙ pawn));
-        rider = λ h. elim (cases_Bool (same_kind i Pawn)) [
-          | inl still ↦ later.rider still
-          | inr now ↦ λ e. false≢true (sym usual.rider ∙ ap allowed (sym e ∙ later.piece now) ∙ became allowed takes c k from i q pawn now go)
+        followed = λ h. elim (cases_Bool (same_kind i Pawn)) [
+          | inl still ↦ later.followed still
+          | inr now ↦ false_from_ne_true (is_unfollowed j)
+              (λ e. false≢true (sym (usual.followed j e) ∙ ap allowed (later.piece now) ∙ became allowed takes c k from i q pawn now go))
         ];
         king = λ h. elim (cases_Bool (same_kind i Pawn)) [
           | inl still ↦ later.king still
@@ -187,7 +188,7 @@ gets_be rb allowed takes c (suc n) k s j t usual (from, i, q, start, go, rest) =
 stays_be : (k : Kind) → CanBe k k
 stays_be k = record {
   piece = λ h. refl;
-  rider = λ h e. absurd (false≢true (ap (λ x. same_kind x Pawn) (sym e) ∙ h));
+  followed = λ h. ap is_unfollowed (same_kind-true k Pawn h);
   king = λ h e. absurd (false≢true (ap (λ x. same_kind x Pawn) (sym e) ∙ h));
 }
 

@@ -10,7 +10,7 @@ unfoldable use Rattle.chess_reach.specs.Reach.{Gets, goes, guards, pawn_goes}
 use Rattle.chess_reach.specs.Reach.{Starts, without_hops}
 use Rattle.chess_core.specs.Squares.{file_of, square_at}
 use Rattle.chess_rules.proofs.Chess.{ap, eq-eqb, square_at-is}
-use Rattle.chess_rules.proofs.making_moves.Stays.{rebirth_small}
+use Rattle.chess_rules.proofs.Stays.{rebirth_small}
 use Rattle.chess_rules.specs.Play.{is_light}
 unfoldable use Rattle.chess_rules.specs.Play.{rebirth}
 use Rattle.chess_reach.specs.ties.Ways.{TakesOn, steps_to}

@@ -1,19 +1,19 @@
 -- What a legal move that doesn't castle does to the men.
 use Rattle.chess_reach.proofs.Chess.{Black, White, Bool, ap, captures_to, is_ahead, subst, inl, inr, ◌<◌, ◌≤◌, ◌+◌, ◌||◌, Colour, IsWellFormed, King, Kind, List, Man, Move, None, Option, Pawn, Position, RuleSet, Some, and_from, and_parts, arith, arriving_man, becomes, capture_square, captured_man, captures_are_reborn, cases_Bool, cond-false, cond-true, eq-eqb, false, false_from_ne_true, false≢true, goes, length, man_on-with_other, man_on-with_same, with_man, guards, is_castling, is_pawn_capture, is_pawn_step, is_promotion_right, is_pseudo_legal, is_some, is_square, man_on, may_promote, moved_men, if◌then◌else◌, not-true, ne_eqb, is_arrival_free, same_colour-refl, rank_of, last_rank, ◌==◌, or_left, or_right, pawn_goes, position_after, position_after_by, reaches, reborn_square, refl, same_colour, same_kind, same_kind-true, sym, true, ℕ, ◌&&◌, ◌∙◌, ◌≡◌, ◌≢◌, ◌⊎◌}
 use Rattle.chess_rules.proofs.Chess.{if_empty, length-set, man_on_at, put_at, rebirth}
-use Rattle.chess_rules.proofs.making_moves.Stays.{rebirth_small}
+use Rattle.chess_rules.proofs.Stays.{rebirth_small}
 use Rattle.chess_reach.proofs.OneMove.{IsReborn}
 use Rattle.chess_attacks.proofs.rays.Ends.{square_is}
 use Rattle.chess_attacks.proofs.rays.OnSquares.{on_board}
 use Rattle.chess_reach.proofs.EmptyBoard.{guards_reached}
 use Rattle.chess_reach.proofs.OneMove.{IsGone}
 use Rattle.chess_rules.proofs.Chess.{file_of, square_at, square_at-is, le-leb, can_castle, may_castle, rebirth_at}
-use Rattle.chess_rules.proofs.legality.Blocking.{arriving_colour, moved_plainly}
-use Rattle.chess_rules.proofs.legality.Seeing.{kept_now, left_now, there_now}
-use Rattle.chess_rules.proofs.listing_moves.TripleNumbers.{made_is_triple}
-use Rattle.chess_rules.proofs.making_moves.Fits.{arrived, pawn_is_no_king, taken}
-use Rattle.chess_rules.proofs.making_moves.Plays.{length-without_at, none_from_is_some}
-use Rattle.chess_rules.proofs.making_moves.Pseudo.{Advances, IsMade, made, pawn_reaches, ways}
+use Rattle.chess_rules.proofs.Blocking.{arriving_colour, moved_plainly}
+use Rattle.chess_rules.proofs.Seeing.{kept_now, left_now, there_now}
+use Rattle.chess_rules.proofs.TripleNumbers.{made_is_triple}
+use Rattle.chess_rules.proofs.Fits.{arrived, pawn_is_no_king, taken}
+use Rattle.chess_rules.proofs.Plays.{length-without_at, none_from_is_some}
+use Rattle.chess_rules.proofs.Pseudo.{Advances, IsMade, made, pawn_reaches, ways}
 
 -- nobody is reborn
 rebirth_none : (o : Option Man) (s : Option ℕ) (men : List (Option Man)) → rebirth_at false men o s ≡ None

@@ -48,6 +48,6 @@ module _ (c e : Colour) (s z king i : ℕ) (enemy : e ≡ other c) (here : i ≡
           | inl too ↦ part_has g j s w _ (knight_part g j w pawn piece too)
               (looked_back Knight n refl knights (piece_guards c Knight s z (subst (λ x. guards c x s z ≡ true) (same_kind-true j Knight too) h)))
           | inr nor ↦ part_has g j s w _ (queen_part g j w pawn piece nor)
-              (looked_back Queen q refl queens (queen_guards c j s z piece nor (be.rider pawn) (be.king pawn) h))
+              (looked_back Queen q refl queens (queen_guards c j s z piece nor (be.followed pawn) (be.king pawn) h))
         ]
       ]

@@ -4,8 +4,8 @@ use Rattle.chess_reach.proofs.Castling.{king_castles_to, other_king_castled}
 use Rattle.chess_reach.proofs.Gone.{is_gone}
 use Rattle.chess_reach.proofs.Lines.{here, man, may}
 use Rattle.chess_reach.proofs.OneMove.{king_arrives, king_stays, other_king_stays, stays}
-use Rattle.chess_rules.proofs.legality.Blocking.{other_differs}
-use Rattle.chess_rules.proofs.making_moves.Pseudo.{made}
+use Rattle.chess_rules.proofs.Blocking.{other_differs}
+use Rattle.chess_rules.proofs.Pseudo.{made}
 
 module _ (rule : RuleSet) (p : Position) (m : Move) (well : IsWellFormed p)
     (legal : is_legal rule p m ≡ true) where

@@ -6,10 +6,10 @@ use Rattle.chess_attacks.proofs.rays.OnSquares.{on_board}
 use Rattle.chess_reach.proofs.Lines.{king_along, line_plan, turn_after, turn_shift}
 use Rattle.chess_reach.specs.Lines.{HoldsEnds, IsLegalLine, holds_king, line_end, mover}
 use Rattle.chess_reach.specs.Plans.{saved_moves, standing_checks}
-use Rattle.chess_rules.proofs.legality.Blocking.{man_there}
-use Rattle.chess_rules.proofs.legality.StayingInCheck.{king_there}
+use Rattle.chess_rules.proofs.Blocking.{man_there}
+use Rattle.chess_rules.proofs.StayingInCheck.{king_there}
 use Rattle.chess_rules.proofs.LegalMoves.{may_be_made}
-use Rattle.chess_rules.proofs.making_moves.Stays.{after_well_formed}
+use Rattle.chess_rules.proofs.Stays.{after_well_formed}
 use Rattle.pop_stipulation.specs.declared.stipulation.Goal.{Goal}
 
 -- the side to move at the end of a line

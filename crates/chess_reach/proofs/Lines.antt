@@ -14,10 +14,10 @@ use Rattle.chess_reach.specs.Lines.{IsLegalLine, line_end, mover, reaches_goal}
 use Rattle.chess_rules.proofs.Chess.{corner, has_unmoved-parts, unmoved_without_at, without_unmoved}
 use Rattle.std.proofs.lemmas.Bool.{or_parts}
 use Rattle.chess_attacks.specs.RuleSet.{like_men_paralyse}
-use Rattle.chess_rules.proofs.legality.Blocking.{other_differs, other_twice}
+use Rattle.chess_rules.proofs.Blocking.{other_differs, other_twice}
 use Rattle.chess_rules.proofs.LegalMoves.{may_be_made}
-use Rattle.chess_rules.proofs.making_moves.Pseudo.{made}
-use Rattle.chess_rules.proofs.making_moves.Stays.{after_well_formed, maker}
+use Rattle.chess_rules.proofs.Pseudo.{made}
+use Rattle.chess_rules.proofs.Stays.{after_well_formed, maker}
 use Rattle.pop_stipulation.specs.declared.stipulation.Goal.{Goal}
 use Rattle.pop_stipulation.specs.declared.stipulation.Goal.TheVariants.{Mate}
 

@@ -2,8 +2,8 @@
 use Rattle.chess_reach.proofs.Chess.{Bool, Colour, End, Ends, Gets, IsBlocked, IsDefended, IsChecked, IsGuarded, IsPlan, King, Kind, List, Man, None, Option, Position, Some, and_parts, ap, arith, cases_Bool, cases_eq, cond-false, cond-true, eq-eqb, false, false_from_ne_true, false≢true, goes, if◌then◌else◌, inl, inr, captures_to, checks_by_leap, is_prey, length, may_capture, not, or_cases, or_left, or_right, and_from, same_colour-true, some_square, some_square_true, squares, is_man, is_of_colour, is_square, man_on, may_promote, ne_eqb, other, price, refl, same_colour, same_colour-refl, same_kind, suc, sym, true, ℕ, ◌<◌, ◌==◌, ◌∙◌, ◌≡◌, ◌≢◌, ◌≤◌, ◌&&◌, ◌||◌}
 use Rattle.pop_stipulation.specs.declared.stipulation.Goal.{Goal}
 use Rattle.pop_stipulation.specs.declared.stipulation.Goal.TheVariants.{Mate}
-use Rattle.chess_rules.proofs.legality.Blocking.{man_there, other_differs}
-use Rattle.chess_rules.proofs.legality.StayingInCheck.{side_there}
+use Rattle.chess_rules.proofs.Blocking.{man_there, other_differs}
+use Rattle.chess_rules.proofs.StayingInCheck.{side_there}
 use Rattle.chess_attacks.proofs.Tests.{any_range_cases}
 use Rattle.chess_attacks.proofs.rays.OnSquares.{on_board}
 use Rattle.chess_rules.proofs.Chess.{any_range_false}

@@ -9,10 +9,10 @@ use Rattle.chess_reach.proofs.Gone.{guards_from, is_gone}
 use Rattle.chess_reach.proofs.OneMove.{meeting, stays, stood_before}
 use Rattle.chess_reach.proofs.Sums.{sum_of_zeros}
 use Rattle.chess_reach.specs.Lines.{reaches_goal}
-use Rattle.chess_rules.proofs.legality.Blocking.{king_is, man_there, other_twice}
-use Rattle.chess_rules.proofs.legality.StayingInCheck.{king_there, side_there}
-use Rattle.chess_rules.proofs.making_moves.Fits.{king_no_step}
-use Rattle.chess_rules.proofs.making_moves.Stays.{after_well_formed}
+use Rattle.chess_rules.proofs.Blocking.{king_is, man_there, other_twice}
+use Rattle.chess_rules.proofs.StayingInCheck.{king_there, side_there}
+use Rattle.chess_rules.proofs.Fits.{king_no_step}
+use Rattle.chess_rules.proofs.Stays.{after_well_formed}
 use Rattle.chess_rules.proofs.theorems.Moves.{mate_is, stalemate_is}
 use Rattle.pop_stipulation.specs.declared.stipulation.Goal.{Goal}
 use Rattle.pop_stipulation.specs.declared.stipulation.Goal.TheVariants.{Mate, Stalemate}

@@ -1,5 +1,5 @@
 -- A plan is found by the search.
-use Rattle.chess_attacks.proofs.Chess.{Bool, Colour, King, List, Man, Nightrider, None, Option, Some, White, all_at, and_from, and_left, and_parts, and_right, ap, arith, bit_and, bit_at, cases_Bool, cases_lt, cond-false, cond-true, eq-eqb, false, false≢true, get_or_past, if◌then◌else◌, inl, inr, is_man, is_of_colour, is_square, length, list_all, list_any, man_on, not, other, queen_steps, range_with_len, refl, same_colour-true, same_kind-true, subst, sym, true, word, word_has, word_only, ℕ, ◌%◌, ◌*◌, ◌+◌, ◌-◌, ◌<◌, ◌==◌, ◌^◌, ◌∙◌, ◌≡◌, ◌≢◌, ◌≤◌}
+use Rattle.chess_attacks.proofs.Chess.{Bool, Colour, King, List, Man, None, Option, Some, White, all_at, and_from, and_left, and_parts, and_right, ap, arith, bit_and, bit_at, cases_Bool, cases_lt, cond-false, cond-true, eq-eqb, false, false≢true, get_or_past, if◌then◌else◌, inl, inr, is_man, is_of_colour, is_square, length, list_all, list_any, man_on, not, other, queen_steps, range_with_len, refl, same_colour-true, same_kind-true, subst, sym, true, word, word_has, word_only, ℕ, ◌%◌, ◌*◌, ◌+◌, ◌-◌, ◌<◌, ◌==◌, ◌^◌, ◌∙◌, ◌≡◌, ◌≢◌, ◌≤◌}
 unfoldable use Rattle.chess_attacks.proofs.Chess.{along, king_square, leaps, reaches_as, squares}
 use Rattle.std.proofs.Common.{slice_index_or}
 use Rattle.std.specs.List.{sum_by}
@@ -24,10 +24,10 @@ use Rattle.chess_reach.specs.declared.hold.Ending.{Ending}
 use Rattle.chess_reach.specs.declared.hold.Quest.{Quest}
 use Rattle.chess_reach.specs.declared.whereabouts.Whereabouts.{Whereabouts}
 use Rattle.chess_reach.specs.ties.Guards.{AreBlocks, AreGuards, CanEnd, StaysAway, guard_at, is_blocker}
-use Rattle.chess_reach.specs.ties.Hold.{Captures, DoesCheck, DoesDefend, DoesGuard, Holds, IsApart, IsHeld, IsIn, IsQuestOf, blocks_in, end_at, post_at}
+use Rattle.chess_reach.specs.ties.Hold.{Captures, DoesCheck, DoesDefend, DoesGuard, Holds, IsApart, IsBegun, IsHeld, IsIn, IsQuestOf, blocks_in, end_at, post_at}
 unfoldable use Rattle.chess_reach.specs.ties.Hold.{blocked, unpaid}
 use Rattle.chess_reach.specs.ties.Whereabouts.{has}
-use Rattle.chess_reach.specs.ties.Ways.{IsChain, IsUsual, nowhere}
+use Rattle.chess_reach.specs.ties.Ways.{IsChain, IsUsual, is_unfollowed, nowhere}
 use Rattle.pop_stipulation.specs.declared.stipulation.Goal.{Goal}
 use Rattle.pop_stipulation.specs.declared.stipulation.Goal.TheVariants.{Mate}
 
@@ -349,35 +349,50 @@ king_near goal sc rb p c d ours theirs k from ends chain enemy plan stands small
     own_colour : (x : Colour) → is_of_colour (Some (record { colour = x; kind = King })) x ≡ true
     own_colour x = grind arith
 
--- promotion to nightrider apart, pawns promote as usual
-pub usual_promotion : (p : Position) → may_promote p Nightrider ≡ false → IsUsual (may_promote p)
-usual_promotion p h = record { king = refl; pawn = refl; rider = h }
+-- where each promotion is followed, pawns promote as usual
+pub usual_promotion : (p : Position) → ((k : Kind) → is_unfollowed k ≡ true → may_promote p k ≡ false) → IsUsual (may_promote p)
+usual_promotion p h = record { king = refl; pawn = refl; followed = h }
 
--- the quest of a position
-pub quest_of : (prey : ℕ) (p : Position) (c d : Colour) (ours m theirs : ℕ) (gs : List Guard) (count : ℕ) (ws : List ℕ) (ending : Ending) (from at : ℕ) (chain : List Whereabouts) → d ≡ other c
-    → length p.men ≡ 64 → theirs < 9 → AreGuards ending.are_reborn prey p.men c m gs count → ours ≤ m
+-- the quest of a position, before its guards are listed
+pub quest_begun : (p : Position) (c d : Colour) (theirs count : ℕ) (gs : List Guard) (ws : List ℕ) (ending : Ending) (from at : ℕ) (king : Guard) → d ≡ other c
+    → length p.men ≡ 64 → theirs < 9 → IsUsual (may_promote p)
     → ((allowed : Kind → Bool) → IsUsual allowed → AreBlocks ending.are_reborn allowed p.men d theirs ws)
-    → may_promote p Nightrider ≡ false → king_square p.men d ≡ Some from → from < 64 → IsChain ending.are_reborn (2 ^ 64 - 1) (record { colour = d; kind = King }) from theirs chain
-    → IsQuestOf prey p (record { ending = ending; colour = c; king = at; count = count; guards = gs; blockable = ws }) (record { kind = King; from = from; chain = chain }) ours theirs
-quest_of prey p c d ours m theirs gs count ws ending from at chain enemy size few guards le blocks plain stands small way = record {
+    → king.kind ≡ King → king.from ≡ from → king_square p.men d ≡ Some from → from < 64
+    → IsChain ending.are_reborn (2 ^ 64 - 1) (record { colour = d; kind = King }) from theirs king.chain
+    → IsBegun p (record { ending = ending; colour = c; king = at; count = count; guards = gs; blockable = ws }) king theirs
+quest_begun p c d theirs count gs ws ending from at king enemy size few usual blocks kind is stands small way = record {
   size = size;
   few = few;
-  guards = guards_less ending.are_reborn prey p.men c m ours gs count guards le;
-  blocks = subst (λ x. AreBlocks ending.are_reborn (may_promote p) p.men x theirs ws) enemy (blocks (may_promote p) (usual_promotion p plain));
-  usual = usual_promotion p plain;
-  kind = refl;
-  stands = subst (λ x. king_square p.men x ≡ Some from) enemy stands;
-  small = small;
-  way = subst (λ x. IsChain ending.are_reborn (2 ^ 64 - 1) (record { colour = x; kind = King }) from theirs chain) enemy way;
+  blocks = subst (λ x. AreBlocks ending.are_reborn (may_promote p) p.men x theirs ws) enemy (blocks (may_promote p) usual);
+  usual = usual;
+  kind = kind;
+  stands = subst (λ x. king_square p.men x ≡ Some king.from) enemy (stands ∙ ap Some (sym is));
+  small = subst (λ s. s < 64) (sym is) small;
+  way = subst (λ x. IsChain ending.are_reborn (2 ^ 64 - 1) (record { colour = x; kind = King }) king.from theirs king.chain) enemy
+      (subst (λ s. IsChain ending.are_reborn (2 ^ 64 - 1) (record { colour = d; kind = King }) s theirs king.chain) (sym is) way);
 }
 
-pub quest_again : (prey : ℕ) (p : Position) (c d : Colour) (k count : ℕ) (gs : List Guard) (vs ws : List ℕ) (e f : Ending) (king : Guard) (ours theirs : ℕ) → d ≡ c → vs ≡ ws → f ≡ e
-    → IsQuestOf prey p (record { ending = e; colour = c; king = k; count = count; guards = gs; blockable = ws }) king ours theirs
-    → IsQuestOf prey p (record { ending = f; colour = d; king = k; count = count; guards = gs; blockable = vs }) king ours theirs
-quest_again prey p c d k count gs vs ws e f king ours theirs same blocks ending of =
-    subst (λ x. IsQuestOf prey p (record { ending = x; colour = d; king = k; count = count; guards = gs; blockable = vs }) king ours theirs) (sym ending)
-    (subst (λ x. IsQuestOf prey p (record { ending = e; colour = x; king = k; count = count; guards = gs; blockable = vs }) king ours theirs) (sym same)
-    (subst (λ x. IsQuestOf prey p (record { ending = e; colour = c; king = k; count = count; guards = gs; blockable = x }) king ours theirs) (sym blocks) of))
+-- the quest with its guards
+pub quest_with : (prey : ℕ) (p : Position) (q r : Quest) (king : Guard) (ours theirs m : ℕ) → r.ending ≡ q.ending → r.colour ≡ q.colour → r.blockable ≡ q.blockable
+    → IsBegun p q king theirs → AreGuards q.ending.are_reborn prey p.men q.colour m r.guards r.count → ours ≤ m → IsQuestOf prey p r king ours theirs
+quest_with prey p q r king ours theirs m ending colour blockable begun guards le =
+    let reborn : r.ending.are_reborn ≡ q.ending.are_reborn = ap (λ (e : Ending). e.are_reborn) ending in
+    record {
+      size = begun.size;
+      few = begun.few;
+      guards = subst (λ b. AreGuards b prey p.men r.colour ours r.guards r.count) (sym reborn)
+          (subst (λ x. AreGuards q.ending.are_reborn prey p.men x ours r.guards r.count) (sym colour)
+          (guards_less q.ending.are_reborn prey p.men q.colour m ours r.guards r.count guards le));
+      blocks = subst (λ b. AreBlocks b (may_promote p) p.men (other r.colour) theirs r.blockable) (sym reborn)
+          (subst (λ x. AreBlocks q.ending.are_reborn (may_promote p) p.men (other x) theirs r.blockable) (sym colour)
+          (subst (AreBlocks q.ending.are_reborn (may_promote p) p.men (other q.colour) theirs) (sym blockable) begun.blocks));
+      usual = begun.usual;
+      kind = begun.kind;
+      stands = subst (λ x. king_square p.men (other x) ≡ Some king.from) (sym colour) begun.stands;
+      small = begun.small;
+      way = subst (λ b. IsChain b (2 ^ 64 - 1) (record { colour = other r.colour; kind = King }) king.from theirs king.chain) (sym reborn)
+          (subst (λ x. IsChain q.ending.are_reborn (2 ^ 64 - 1) (record { colour = other x; kind = King }) king.from theirs king.chain) (sym colour) begun.way);
+    }
 
 pub plan_again : (p : Position) (c d : Colour) (e f : Ending) (ours theirs k : ℕ) (ends : Ends) → d ≡ c → f ≡ e → IsPlan e.goal e.standing_checks e.are_reborn p c ours theirs k ends
     → IsPlan f.goal f.standing_checks f.are_reborn p d ours theirs k ends

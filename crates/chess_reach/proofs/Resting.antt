@@ -1,10 +1,10 @@
 -- Where a man can be without a move, if captured men are reborn.
-use Rattle.chess_attacks.proofs.Chess.{Bishop, Black, Bool, Colour, Kind, King, Knight, Man, Nightrider, Pawn, Queen, Rook, Some, White, all_at, ap, arith, bit_and, bit_at, bit_not, bit_or, cases_Bool, eq-eqb, false, false≢true, inl, inr, on_left, on_right, range_with_len, rank_of, refl, same_kind-true, subst, sym, true, w64, ℕ, ◌%◌, ◌*◌, ◌+◌, ◌<◌, ◌==◌, ◌^◌, ◌∙◌, ◌≡◌, ◌≢◌, if◌then◌else◌, list_all}
+use Rattle.chess_attacks.proofs.Chess.{Bishop, Black, Bool, Colour, Kind, King, Knight, Man, Pawn, Queen, Rook, Some, White, all_at, ap, arith, bit_and, bit_at, bit_not, bit_or, cases_Bool, eq-eqb, false, false≢true, inl, inr, on_left, on_right, range_with_len, rank_of, refl, same_kind-true, subst, sym, true, w64, ℕ, ◌%◌, ◌*◌, ◌+◌, ◌<◌, ◌==◌, ◌^◌, ◌∙◌, ◌≡◌, ◌≢◌, if◌then◌else◌, list_all}
 use Rattle.std.specs.Prelude.{◌/◌, ◌||◌, ◌&&◌, not}
 use Rattle.chess_core.specs.Position.{is_fairy, same_kind}
 use Rattle.chess_core.specs.Squares.{file_of, square_at}
 use Rattle.chess_rules.proofs.Chess.{square_at-is}
-use Rattle.chess_rules.proofs.making_moves.Stays.{rebirth_small}
+use Rattle.chess_rules.proofs.Stays.{rebirth_small}
 use Rattle.chess_rules.specs.Legal.{last_rank, second_rank}
 use Rattle.chess_rules.specs.Play.{is_light}
 unfoldable use Rattle.chess_rules.specs.Play.{rebirth}
@@ -150,17 +150,17 @@ king_dies White s h home Q = grind (arith, home)
 king_dies Black s h home Q = grind (arith, home)
 
 -- promoted men are reborn where one of four kinds is
-pub promoted_home : (c : Colour) (k : Kind) (s h q r b g : ℕ) → k ≢ Knight → k ≢ Nightrider → k ≢ Pawn → rebirth c k s ≡ Some h
+pub promoted_home : (c : Colour) (k : Kind) (s h q r b g : ℕ) → k ≢ Knight → k ≢ Pawn → rebirth c k s ≡ Some h
     → (rebirth c Queen s ≡ Some h → (bit_at q h == 1) ≡ true) → (rebirth c Rook s ≡ Some h → (bit_at r h == 1) ≡ true)
     → (rebirth c Bishop s ≡ Some h → (bit_at b h == 1) ≡ true) → ((j : Kind) → is_fairy j ≡ true → rebirth c j s ≡ Some h → (bit_at g h == 1) ≡ true)
     → (bit_at (bit_or (bit_or (bit_or q r) b) g) h == 1) ≡ true
-promoted_home c King s h q r b g n i p home queens rooks bishops fairies = king_dies c s h home _
-promoted_home c Queen s h q r b g n i p home queens rooks bishops fairies = on_left _ g h (on_left _ b h (on_left q r h (queens home)))
-promoted_home c Rook s h q r b g n i p home queens rooks bishops fairies = on_left _ g h (on_left _ b h (on_right q r h (rooks home)))
-promoted_home c Bishop s h q r b g n i p home queens rooks bishops fairies = on_left _ g h (on_right (bit_or q r) b h (bishops home))
-promoted_home c Knight s h q r b g n i p home queens rooks bishops fairies = absurd (n refl)
-promoted_home c Pawn s h q r b g n i p home queens rooks bishops fairies = absurd (p refl)
-promoted_home c k s h q r b g n i p home queens rooks bishops fairies = on_right (bit_or (bit_or q r) b) g h (fairies k refl home)
+promoted_home c King s h q r b g n p home queens rooks bishops fairies = king_dies c s h home _
+promoted_home c Queen s h q r b g n p home queens rooks bishops fairies = on_left _ g h (on_left _ b h (on_left q r h (queens home)))
+promoted_home c Rook s h q r b g n p home queens rooks bishops fairies = on_left _ g h (on_left _ b h (on_right q r h (rooks home)))
+promoted_home c Bishop s h q r b g n p home queens rooks bishops fairies = on_left _ g h (on_right (bit_or q r) b h (bishops home))
+promoted_home c Knight s h q r b g n p home queens rooks bishops fairies = absurd (n refl)
+promoted_home c Pawn s h q r b g n p home queens rooks bishops fairies = absurd (p refl)
+promoted_home c k s h q r b g n p home queens rooks bishops fairies = on_right (bit_or (bit_or q r) b) g h (fairies k refl home)
 
 not_of : (k j : Kind) → same_kind k j ≡ false → k ≢ j
 not_of k j off same = grind (arith, off, same)
@@ -174,7 +174,7 @@ module _ (rb : Bool) (x : Man) (v : Whereabouts) (us qs ns : ℕ) where
   rest_kept j t had = has_left x.kind j t v.unpromoted v.queen v.knight us qs ns had
 
   module _ (own : (s h : ℕ) → s < 64 → (bit_at v.unpromoted s == 1) ≡ true → rebirth x.colour x.kind s ≡ Some h → (bit_at us h == 1) ≡ true)
-      (queens : (k : Kind) (s h : ℕ) → k ≢ Knight → k ≢ Nightrider → k ≢ Pawn → s < 64 → (bit_at v.queen s == 1) ≡ true → rebirth x.colour k s ≡ Some h
+      (queens : (k : Kind) (s h : ℕ) → k ≢ Knight → k ≢ Pawn → s < 64 → (bit_at v.queen s == 1) ≡ true → rebirth x.colour k s ≡ Some h
       → (bit_at qs h == 1) ≡ true)
       (knights : (s h : ℕ) → s < 64 → (bit_at v.knight s == 1) ≡ true → rebirth x.colour Knight s ≡ Some h → (bit_at ns h == 1) ≡ true) where
     born_on : (j : Kind) (r t : ℕ) → r < 64 → CanBe x.kind j → has x.kind j r v ≡ true → rebirth x.colour j r ≡ Some t → has x.kind j t rest ≡ true
@@ -191,7 +191,7 @@ module _ (rb : Bool) (x : Man) (v : Whereabouts) (us qs ns : ℕ) where
               (on_right v.knight ns t (knights r t low (has_part x.kind j r v _ (knight_part x.kind j v pawn piece too) had)
               (subst (λ k. rebirth x.colour k r ≡ Some t) (same_kind-true j Knight too) home)))
           | inr nor ↦ part_has x.kind j t rest _ (queen_part x.kind j rest pawn piece nor)
-              (on_right v.queen qs t (queens j r t (not_of j Knight nor) (be.rider pawn) (not_of j Pawn piece) low
+              (on_right v.queen qs t (queens j r t (not_of j Knight nor) (not_of j Pawn piece) low
               (has_part x.kind j r v _ (queen_part x.kind j v pawn piece nor) had) home))
         ]
       ]

@@ -4,8 +4,8 @@ use Rattle.chess_attacks.proofs.rays.OnSquares.{on_board}
 use Rattle.chess_attacks.specs.RuleSet.{like_men_paralyse}
 use Rattle.chess_reach.proofs.OneMove.{stays}
 use Rattle.chess_reach.proofs.Picture.{checked}
-use Rattle.chess_rules.proofs.legality.Blocking.{king_is, man_there, other_twice}
-use Rattle.chess_rules.proofs.legality.StayingInCheck.{king_there, side_there}
+use Rattle.chess_rules.proofs.Blocking.{king_is, man_there, other_twice}
+use Rattle.chess_rules.proofs.StayingInCheck.{king_there, side_there}
 
 -- knights and pawns reach what they guard on each board
 leaper_reaches : (men : List (Option Man)) (c : Colour) (j : Kind) (s t : ℕ) → checks_by_leap j ≡ true → guards c j s t ≡ true → reaches_as men c j s t ≡ true

@@ -93,8 +93,8 @@ fn with_castling(board: &Board, colour: Colour, moves: usize) -> usize
 fn king_home(colour: Colour) -> Square
     ensures { result ≡ king_home colour }
 {
-    Square::numbered(match colour {
-        Colour::White => 4,
-        Colour::Black => 60,
-    })
+    match colour {
+        Colour::White => Square::E1,
+        Colour::Black => Square::E8,
+    }
 }

@@ -1,16 +1,17 @@
 //! The squares for which there may be a plan.
-ghost use Rattle.std.specs.Prelude.{◌≡◌, ◌-◌, ◌^◌, ◌<◌, ◌≤◌, false, ◌==◌, ℕ, true, List, Option, MatchOption, slice_index_or, ◌⊎◌};
+ghost use Rattle.std.specs.Prelude.{◌≡◌, ◌-◌, ◌^◌, ◌<◌, ◌≤◌, false, ◌==◌, ℕ, true, List, Option, IfSome, MatchOption, slice_index_or, ◌⊎◌};
 ghost use Rattle.std.specs.Int.{bit_at};
-ghost use Rattle.chess_core.specs.Position.{Position, other};
+ghost use Rattle.chess_core.specs.Position.{Position, may_promote, other};
 ghost use Rattle.chess_core.specs.WellFormed.{IsWellFormed};
 ghost use Rattle.chess_reach.specs.Plans.{Ends, IsPlan, captures_to};
 ghost use Rattle.chess_core.specs.declared.man.Colour.TheVariants.{White};
+ghost use Rattle.chess_core.specs.declared.man.Kind.{Kind};
 ghost use Rattle.chess_core.specs.declared.man.Kind.TheVariants.{King};
 ghost use Rattle.chess_core.specs.declared.man.Man.{Man};
 ghost use Rattle.chess_reach.specs.Reach.{guards};
 ghost use Rattle.chess_reach.specs.ties.Guards.{guard_at, is_blocker};
-ghost use Rattle.chess_reach.specs.ties.Hold.{Captures, Holds, IsApart, IsQuestOf, post_at};
-ghost use Rattle.chess_reach.specs.ties.Ways.{nowhere};
+ghost use Rattle.chess_reach.specs.ties.Hold.{Captures, Holds, IsApart, IsBegun, IsQuestOf, post_at};
+ghost use Rattle.chess_reach.specs.ties.Ways.{IsChain, is_unfollowed, nowhere};
 
 use crate::blocks::{Blocks, all_blockable, blocks_of};
 use crate::guards::{Guard, MEN, list_guards};
@@ -201,6 +202,69 @@ fn may_lure(theirs: usize, prey: Squares, lures: Squares, left: Squares) -> bool
     theirs != 0 && lures != prey && left != 0
 }
 
+// Returns whether a pawn may promote to a kind whose promotion isn't followed.
+fn may_promote_unfollowed(board: &Board) -> bool
+    ensures none { result ≡ false → (k : Kind) → is_unfollowed k ≡ true
+        → may_promote board.now k ≡ false }
+    ensures some { result ≡ true → (k : Kind) × (is_unfollowed k ≡ true)
+        × (may_promote board.now k ≡ true) }
+{
+    board.may_promote(Kind::Nightrider)
+}
+
+// Returns the king of this colour on `from` as a guard, with where it can be within each number of moves up to
+// `most`.
+#[inline(always)]
+fn king_guard(colour: Colour, from: Square, most: usize, are_reborn: bool) -> Guard
+    requires { most < 9 }
+    ensures kind { result.kind ≡ King }
+    ensures from { result.from ≡ from }
+    ensures way { IsChain are_reborn (2 ^ 64 - 1) (record { colour = colour; kind = King })
+        from most result.chain }
+{
+    let kind = Kind::King;
+    let chain = chain_of(Man { colour, kind }, from, most, Squares::MAX, are_reborn);
+    Guard { kind, from, chain }
+}
+
+// Returns the part of `near` on which the king may end by a plan, and `None` if the mating side has too many men
+// for a search. The guards capture first where men stand, then where men may go in order to be captured.
+fn planned_near(
+    board: &Board,
+    quest: &mut Quest,
+    king: &Guard,
+    near: Squares,
+    ours: usize,
+    theirs: usize,
+) -> Option<Squares>
+    requires { ours < 8 }
+    ensures { (k : ℕ) (ends : Ends) → IsBegun board.now quest.old king.now theirs → k < 64
+        → IsPlan quest.old.ending.goal quest.old.ending.standing_checks quest.old.ending.are_reborn
+        board.now quest.old.colour ours theirs k ends
+        → (bit_at near k == 1) ≡ true
+        → IfSome result (λ planned. (bit_at planned k == 1) ≡ true) }
+{
+    let mating = quest.colour;
+    let are_reborn = quest.ending.are_reborn;
+    let most = ours + 1;
+    let prey = prey(board, mating, are_reborn);
+    let lures = lures(board, mating, are_reborn, &quest.blockable);
+    let Some(count) = list_guards(board, mating, most, prey, are_reborn, &mut quest.guards) else {
+        return None;
+    };
+    quest.count = count;
+    let planned = planned_part(quest, king, near, ours, theirs, 0);
+    let left = near & !planned;
+    if !may_lure(theirs, prey, lures, left) {
+        return Some(planned);
+    }
+    let Some(count) = list_guards(board, mating, most, lures, are_reborn, &mut quest.guards) else {
+        return None;
+    };
+    quest.count = count;
+    Some(planned | planned_part(quest, king, left, ours, theirs, 1))
+}
+
 /// Returns the part of `squares` on which the king of the side to be mated may end by a plan: the mating
 /// side makes at most `ours` moves, the other at most `theirs`. It leaves out a square only if there is no plan.
 pub(crate) fn planned_squares(
@@ -216,32 +280,19 @@ pub(crate) fn planned_squares(
         → IsPlan ending.goal ending.standing_checks ending.are_reborn board.now mating ours theirs k ends
         → (bit_at squares k == 1) ≡ true → (bit_at result k == 1) ≡ true }
 {
-    if ours >= MOVES - 1 || theirs >= MOVES || board.may_promote(Kind::Nightrider) {
+    if ours >= MOVES - 1 || theirs >= MOVES || may_promote_unfollowed(board) {
         return squares;
     }
     let colour = mating.other();
     let Some(from) = board.king_of(colour) else {
         return squares;
     };
-    let kind = Kind::King;
-    let king = Guard {
-        kind,
-        from,
-        chain: chain_of(
-            Man { colour, kind },
-            from,
-            theirs,
-            Squares::MAX,
-            ending.are_reborn,
-        ),
-    };
+    let king = king_guard(colour, from, theirs, ending.are_reborn);
     let near = squares & king.chain[theirs].unpromoted;
     if near == 0 {
         return 0;
     }
     let blockable = blocks_of(board, colour, theirs, ending.are_reborn);
-    let prey = prey(board, mating, ending.are_reborn);
-    let lures = lures(board, mating, ending.are_reborn, &blockable);
     let mut quest = Quest {
         ending,
         colour: mating,
@@ -250,32 +301,8 @@ pub(crate) fn planned_squares(
         guards: [Guard::unused(); MEN],
         blockable,
     };
-    let Some(count) = list_guards(
-        board,
-        mating,
-        ours + 1,
-        prey,
-        ending.are_reborn,
-        &mut quest.guards,
-    ) else {
-        return squares;
-    };
-    quest.count = count;
-    let planned = planned_part(&mut quest, &king, near, ours, theirs, 0);
-    let left = near & !planned;
-    if !may_lure(theirs, prey, lures, left) {
-        return planned;
+    match planned_near(board, &mut quest, &king, near, ours, theirs) {
+        Some(planned) => planned,
+        None => squares,
     }
-    let Some(count) = list_guards(
-        board,
-        mating,
-        ours + 1,
-        lures,
-        ending.are_reborn,
-        &mut quest.guards,
-    ) else {
-        return squares;
-    };
-    quest.count = count;
-    planned | planned_part(&mut quest, &king, left, ours, theirs, 1)
 }

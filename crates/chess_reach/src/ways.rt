@@ -5,7 +5,7 @@ ghost use Rattle.chess_core.specs.Position.{is_fairy};
 ghost use Rattle.chess_core.specs.Squares.{file_of, rank_of};
 ghost use Rattle.chess_core.specs.declared.man.Colour.{Colour};
 ghost use Rattle.chess_core.specs.declared.man.Kind.{Kind};
-ghost use Rattle.chess_core.specs.declared.man.Kind.TheVariants.{Bishop, King, Knight, Nightrider, Pawn, Queen, Rook};
+ghost use Rattle.chess_core.specs.declared.man.Kind.TheVariants.{Bishop, King, Knight, Pawn, Queen, Rook};
 ghost use Rattle.chess_attacks.specs.Reaches.{reaches_as};
 ghost use Rattle.chess_rules.specs.Legal.{last_rank, second_rank};
 ghost use Rattle.chess_rules.specs.Play.{is_light, rebirth};
@@ -334,10 +334,9 @@ fn homes(colour: Colour, kind: Kind, squares: Squares) -> Squares
     }
 }
 
-// Returns the squares on which promoted men other than knights and nightriders are reborn that are captured on
-// these.
+// Returns the squares on which promoted men other than knights are reborn that are captured on these.
 fn promoted_homes(colour: Colour, squares: Squares) -> Squares
-    ensures { (kind : Kind) (s h : ℕ) → kind ≢ Knight → kind ≢ Nightrider → kind ≢ Pawn → s < 64
+    ensures { (kind : Kind) (s h : ℕ) → kind ≢ Knight → kind ≢ Pawn → s < 64
         → (bit_at squares s == 1) ≡ true → rebirth colour kind s ≡ Some h
         → (bit_at result h == 1) ≡ true }
 {

@@ -2,7 +2,7 @@
 -- from the definitions.
 use Rattle.chess_rules.proofs.Chess.{AreEvasions, AreEvasionsFrom, Bishop, Black, Bool, Colour, Grasshopper, HasNoMoveFrom, Kind, King, Knight, List, Man, Nightrider, Option, Pawn, Position, Queen, Rook, RuleSet, Some, White, [], agree_below_at, along, and_from, ap, arith, bit_at, can_castle, can_go, cannot_expose, cases_lt, drop, is_attacked_by_like, false, false≢true, filter, has_fairy, has_fairy_lines_of, hops, in_check, is_ahead, is_arrival_free, is_rider_beyond, is_checker, is_clear, is_evasion, is_legal, is_of_colour, is_on_fairy_line, is_on_some, is_paralysed, is_plain, is_pseudo_legal, is_reached, is_blocking, king_square, leaps, madrasi, man_on, may_be_paralysed, may_expose, may_arrive, may_promote, may_be_hurdle, moves_between, none_unmoved, not, orthodox, pawn_steps_to, per_arrival, per_origin, position_after, promotion_at, reaches, reaches_as, refl, rides, rules, occupancy_after, some_square, squares, steps_to, straight_steps, sym, take, triple_at, triples, true, true_from_ne_false, true≢false, with_unmoved, without_man, word, word_of, ℕ, ◌%◌, ◌&&◌, ◌*◌, ◌+◌, ◌-◌, ◌/◌, ◌<◌, ◌==◌, ◌∙◌, ◌∷◌, ◌≡◌, ◌≤◌, met_between}
 use Rattle.chess_attacks.proofs.rays.OnSquares.{on_board}
-use Rattle.chess_rules.proofs.legality.StayingInCheck.{side_there}
+use Rattle.chess_rules.proofs.StayingInCheck.{side_there}
 use Rattle.chess_rules.proofs.Typed.{go, man, on, position, promoting, set_up, a1, b1, c1, d1, e1, g1, h1, a2, b2, h2, a3, b3, c3, d3, h3, a4, d5, e4, a5, b6, d6, e5, e7, a8, b8, e8, f8, g8, h8}
 unfoldable pub use Rattle.chess_rules.proofs.Typed.{check_after_a_move}
 

@@ -1,8 +1,2 @@
--- What attacks a square, before and after a move.
-pub mod FairyLines
-pub mod Blocking
-pub mod Seeing
-pub mod Exposing
-pub mod StayingInCheck
-pub mod EvasionTargets
+-- Bitboards of the squares that block lines: lemmas for this crate alone.
 pub mod Riding

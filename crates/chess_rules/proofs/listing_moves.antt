@@ -1,14 +1,5 @@
--- The legal moves in order, and how the search finds them.
-pub mod Targeting
-pub mod Members
-pub mod Places
-pub mod Walks
-pub mod Arrivals
-pub mod OpenBoard
+-- How the search finds the legal moves in order: lemmas for this crate alone.
 pub mod Calls
-pub mod Between
 pub mod Counts
 pub mod SurelyLegal
-pub mod TripleNumbers
-pub mod Filtering
 pub mod OtherMoves

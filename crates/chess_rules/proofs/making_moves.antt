@@ -1,8 +1,2 @@
--- Moves made and taken back.
-pub mod Plays
+-- Moves taken back: lemmas for this crate alone.
 pub mod Back
-pub mod Castles
-pub mod Pseudo
-pub mod Fits
-pub mod Stays
-pub mod Returns

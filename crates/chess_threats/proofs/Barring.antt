@@ -4,7 +4,7 @@ use Rattle.chess_threats.proofs.HomeSquares.{some_of}
 use Rattle.chess_attacks.proofs.rays.OnSquares.{one_on, size_on}
 use Rattle.chess_flights.proofs.Bitboards.{on_denied}
 use Rattle.chess_flights.proofs.Standing.{nobody_strikes, not_mine, not_mine_enemy, some_side, stays_there, stood, unfree}
-use Rattle.chess_rules.proofs.making_moves.Plays.{length-without_at}
+use Rattle.chess_rules.proofs.Plays.{length-without_at}
 use Rattle.chess_flights.proofs.QuietFilter.{beyond}
 
 -- for `unbarred_steps`: a step that is skipped comes to an empty square that is reached

@@ -8,10 +8,10 @@ pub use Rattle.chess_rules.proofs.Chess.{along-is, is_attacked_at, is_occupied, 
 unfoldable pub use Rattle.chess_rules.proofs.Chess.{is_arrival, is_on_fairy_line, is_blocking, rebirth}
 pub use Rattle.chess_flights.specs.ties.Checks.{is_absent}
 pub use Rattle.chess_attacks.proofs.Tests.{some_is, find_no, same_Bool}
-pub use Rattle.chess_rules.proofs.listing_moves.Arrivals.{may_go_aimed}
-pub use Rattle.chess_rules.proofs.listing_moves.Targeting.{arrival_needed}
-pub use Rattle.chess_rules.proofs.listing_moves.Walks.{off_second}
-pub use Rattle.chess_rules.proofs.making_moves.Stays.{IsReborn, captured_enemy, rebirth_small}
+pub use Rattle.chess_rules.proofs.Arrivals.{may_go_aimed}
+pub use Rattle.chess_rules.proofs.Targeting.{arrival_needed}
+pub use Rattle.chess_rules.proofs.Walks.{off_second}
+pub use Rattle.chess_rules.proofs.Stays.{IsReborn, captured_enemy, rebirth_small}
 pub use Rattle.chess_attacks.proofs.rays.Flips.{diagonal-back, straight-back}
 pub use Rattle.chess_attacks.proofs.Basics.{map, ne_eqb, or_lt, true_from_ne_false}
 pub use Rattle.chess_threats.specs.ties.KingAttack.{AreAdjacent, AreArrivals, AreCaptureSquares, AreCastlingSquares, AreClosed, AreFree, AreGuardsWithout, AreHomes, AreHomesOf, AreHurdles, AreLaterHurdles, AreSpringboards, AreHopTargets, AreThreats, AreWeak, IsApart, IsArrival, IsBarred, IsCaptured, IsCastlingHarmless, IsCheckWord, IsKingZone, IsFlight, IsHarmless, IsHome, IsHurdle, IsLike, IsNoCheck, IsOff, IsQuiet, IsRiskAt, IsSafeMove, IsSafeStep, IsDecidedStep, IsShut, IsShutAt, IsKingAttack, IsKingAttackOf, IsSparedStep, IsHopped, IsUnguarded, IsUnhopped, IsUntaken, IsWeak, IsWeakAt, IsWhole, KeepsFlight, KeepsFlightBeside, LeavesOne, LeavesUntaken, MayRide, moves_on_fairy_lines}

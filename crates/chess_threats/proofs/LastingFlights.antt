@@ -7,13 +7,13 @@ use Rattle.chess_flights.specs.ties.Attackers.{is_promotion}
 use Rattle.chess_threats.specs.declared.lasting_flights.OpenTargets.{OpenTargets}
 use Rattle.chess_threats.specs.ties.LastingFlights.{AreKindTargets, AreOpenTargets, AreTargets, AreTargetsOf, LeavesOne}
 use Rattle.chess_flights.specs.ties.Approaches.{counts_as}
-use Rattle.chess_rules.proofs.listing_moves.OpenBoard.{piece_targets}
+use Rattle.chess_rules.proofs.OpenBoard.{piece_targets}
 use Rattle.chess_attacks.specs.ties.Lines.{AreReached}
 use Rattle.chess_rules.specs.ties.Targets.{may_arrive}
 use Rattle.chess_flights.proofs.Promotions.{last_rank_on, promotes_on}
 use Rattle.chess_flights.proofs.Bitboards.{off_denied, on_both}
 use Rattle.chess_flights.proofs.Fleeing.{IsKingOn, king_waits, no_mate_with_flight, step_to}
-use Rattle.chess_rules.proofs.listing_moves.Places.{met_after-end, met_after-none}
+use Rattle.chess_rules.proofs.Places.{met_after-end, met_after-none}
 use Rattle.chess_flights.proofs.Mating.{not_mating, turn_after}
 use Rattle.chess_flights.proofs.Standing.{arrival_small, has_one, not_mine, stood}
 

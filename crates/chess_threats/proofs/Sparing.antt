@@ -6,7 +6,7 @@ use Rattle.chess_flights.proofs.Hurdles.{later, later_but}
 use Rattle.chess_flights.proofs.Bitboards.{on_both, none_at}
 use Rattle.chess_flights.proofs.KingsApart.{kings_apart}
 use Rattle.chess_flights.proofs.Fleeing.{IsKingOn, no_king_free, no_mate_with_flight, step_to}
-use Rattle.chess_rules.proofs.listing_moves.Places.{met_after-end, met_after-none}
+use Rattle.chess_rules.proofs.Places.{met_after-end, met_after-none}
 use Rattle.chess_flights.proofs.Mating.{no_mate_quietly, not_mating, turn_after}
 use Rattle.chess_threats.proofs.QuietCastling.{castles_quietly}
 use Rattle.chess_flights.specs.ties.Approaches.{MayBecome}

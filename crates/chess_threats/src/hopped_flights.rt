@@ -49,7 +49,7 @@ fn squares_beside(king: Square, flight: Square) -> Squares
 // Returns the squares whose occupation might leave no flight of `near` after a grasshopper arrives on
 // one of `targets`. A target that holds another attacker counts only if the grasshopper recaptures
 // there.
-#[tactic(auto, using(chess_attacks::proofs::HoldTaken::rest_falls, chess_rules::proofs::listing_moves::Targeting::every_square_on))]
+#[tactic(auto, using(chess_attacks::proofs::HoldTaken::rest_falls, chess_rules::proofs::Targeting::every_square_on))]
 pub(crate) fn critical_of_hops(
     king: Square,
     near: Squares,

@@ -60,7 +60,7 @@ pub(crate) struct HopTargets {
 }
 
 // Returns the squares to which a defender's king on `king` might step, attacked or not.
-#[tactic(auto, using(chess_flights::proofs::Bitboards::off_denied, chess_rules::proofs::listing_moves::Walks::on_first, chess_attacks::proofs::Bits::word_has))]
+#[tactic(auto, using(chess_flights::proofs::Bitboards::off_denied, chess_rules::proofs::Walks::on_first, chess_attacks::proofs::Bits::word_has))]
 pub(crate) fn adjacent_squares(king_attack: &KingAttack, king: Square) -> Squares
     ensures { AreAdjacent king_attack.now king result }
 {
@@ -166,7 +166,8 @@ fn landings_among(king_attack: &KingAttack, king: Square, squares: Squares) -> L
     }
 }
 
-// Returns the hop targets of a king on `king`.
+// Returns the squares next to a king on `king` that hoppers reach only over an arriving man, with the springboards of
+// these squares and of its own.
 pub(crate) fn hop_targets_of(king_attack: &KingAttack, king: Square) -> HopTargets
     ensures { AreHopTargets king_attack.now king result }
 {
@@ -269,7 +270,7 @@ fn ends_of(squares: Squares) -> Squares
 // are next to the king, no attacker would reach them if it were alone on the board, and no single move
 // takes all of them. If two of them are enough, only these two are returned. If one move can take them
 // all, every square is returned.
-#[tactic(auto, using(chess_rules::proofs::listing_moves::Targeting::every_square_on))]
+#[tactic(auto, using(chess_rules::proofs::Targeting::every_square_on))]
 #[inline(always)]
 pub(crate) fn needed_squares(king_attack: &KingAttack, targets: &OpenTargets) -> Squares
     requires { AreOpenTargets king_attack.now.men targets.now }

@@ -138,7 +138,7 @@ fn stopping_squares(board: &Board, occupancy: Occupancy, man: Man, to: Square) -
 }
 
 // Returns the squares where the lifted man's arrival may stop all the steps.
-#[tactic(auto, using(chess_attacks::proofs::HoldTaken::rest_falls, chess_rules::proofs::listing_moves::Targeting::every_square_on))]
+#[tactic(auto, using(chess_attacks::proofs::HoldTaken::rest_falls, chess_rules::proofs::Targeting::every_square_on))]
 fn holding_squares(board: &Board, occupancy: Occupancy, man: Man, steps: Squares) -> Squares
     ensures { (t : ℕ) → t < 64 → (bit_at result t == 1) ≡ false
         → (f : ℕ) × IsStepLeft board.now occupancy steps man t f }

@@ -68,7 +68,7 @@ fn left_squares(near: Squares, man: Man, to: Square) -> Squares
 
 // Returns the squares whose occupation by a defender leaves none of `near` to the king, once the man is
 // on `to`. If another attacker is on `to`, the man arrives there only by recapturing.
-#[tactic(auto, using(chess_rules::proofs::listing_moves::Targeting::every_square_on))]
+#[tactic(auto, using(chess_rules::proofs::Targeting::every_square_on))]
 fn critical_with(near: Squares, enemies: Squares, man: Man, to: Square) -> Squares
     ensures { LeavesOne near enemies result man to }
 {
@@ -151,7 +151,7 @@ fn critical_of_going(
 }
 
 // Returns whether the man may promote to a fairy man on one of the squares.
-#[tactic(auto, using(crate::proofs::LastingFlights::no_last_rank, crate::proofs::Promotions::no_fairy, chess_rules::proofs::listing_moves::Targeting::no_pawn_arrives))]
+#[tactic(auto, using(crate::proofs::LastingFlights::no_last_rank, crate::proofs::Promotions::no_fairy, chess_rules::proofs::Targeting::no_pawn_arrives))]
 fn may_become_fairy(men: &Attackers, man: Man, targets: Squares) -> bool
     ensures { result ≡ false → (t : ℕ) → t < 64 → (bit_at targets t == 1) ≡ true → (z : Man)
         → MayBecome men.now.fairy_promotions man t z → MayBecome false man t z }
@@ -176,7 +176,7 @@ fn arrivals(hurdles: Squares, man: Man, from: Square) -> Squares
 
 // Returns the reached squares from which the man gives check, lets a hopper give check, or may give
 // check after promotion. A king itself gives no check.
-#[tactic(auto, using(chess_rules::proofs::listing_moves::Walks::off_second, crate::proofs::Risks::king_targets))]
+#[tactic(auto, using(chess_rules::proofs::Walks::off_second, crate::proofs::Risks::king_targets))]
 fn checking_targets(man: Man, reached: Squares, king_zone: &KingZone, checks: Squares) -> Squares
     ensures { (t : ℕ) → t < 64 → (bit_at reached t == 1) ≡ true
         → (bit_at result t == 1) ≡ false → IsNoCheck king_zone.now checks man t }
@@ -204,7 +204,7 @@ fn watched_squares(guards: &Guards, king: Square, reached: Squares, targets: Squ
 }
 
 // Returns the squares among `squares` on which the king can't capture the arriving man.
-#[tactic(auto, using(chess_flights::proofs::Bitboards::bit_denied, chess_attacks::proofs::Bits::off_left, chess_attacks::proofs::Bits::off_right, chess_rules::proofs::listing_moves::Walks::off_second))]
+#[tactic(auto, using(chess_flights::proofs::Bitboards::bit_denied, chess_attacks::proofs::Bits::off_left, chess_attacks::proofs::Bits::off_right, chess_rules::proofs::Walks::off_second))]
 fn uncaptured_squares(king_zone: &KingZone, guards: &Guards, squares: Squares) -> Squares
     ensures { (t : ℕ) → t < 64 → (bit_at squares t == 1) ≡ true
         → (bit_at result t == 1) ≡ false → ((bit_at king_zone.now.captures t == 1) ≡ true)
@@ -346,7 +346,7 @@ fn check_squares_over(king_attack: &KingAttack, king_zone: &KingZone, man: Man) 
 // Returns a superset of the squares from which the man may give check with its next move, promoted or
 // not, on an empty board, or uncover a check. All squares, unless the man is a pawn or a king and the
 // king's square has no springboard.
-#[tactic(auto, using(chess_rules::proofs::listing_moves::Targeting::every_square_on, chess_rules::proofs::listing_moves::Targeting::false_by, crate::proofs::Risks::king_targets, chess_flights::proofs::Bitboards::none_at, crate::proofs::Risks::pawn_idly))]
+#[tactic(auto, using(chess_rules::proofs::Targeting::every_square_on, chess_rules::proofs::Targeting::false_by, crate::proofs::Risks::king_targets, chess_flights::proofs::Bitboards::none_at, crate::proofs::Risks::pawn_idly))]
 #[inline(always)]
 fn suspect_squares(king_zone: &KingZone, man: Man, checks: Squares) -> Squares
     ensures { (v : KingAttack) (s : ℕ) → s < 64 → (bit_at result s == 1) ≡ false
@@ -384,7 +384,7 @@ struct KindRisk<'a> {
     king_zone: &'a KingZone,
 }
 
-#[tactic(auto, using(chess_rules::proofs::listing_moves::Targeting::every_square_on, chess_flights::proofs::Bitboards::none_at))]
+#[tactic(auto, using(chess_rules::proofs::Targeting::every_square_on, chess_flights::proofs::Bitboards::none_at))]
 impl ForKind<Squares> for KindRisk<'_> {
     type Out = Risk;
 
@@ -462,7 +462,7 @@ fn risk_of_all(king_attack: &KingAttack, king_zone: &KingZone) -> Risk
 
 // Returns the risk of a defender whose king is on `king`. `riders` are its nightrider lines,
 // `hop_targets` its springboards. If a hopper or castling may give check, every square is critical.
-#[tactic(auto, using(crate::proofs::KingAttacks::risk_is, chess_rules::proofs::listing_moves::Targeting::every_square_on))]
+#[tactic(auto, using(crate::proofs::KingAttacks::risk_is, chess_rules::proofs::Targeting::every_square_on))]
 #[inline(always)]
 fn risk_with(
     king_attack: &KingAttack,
@@ -577,7 +577,7 @@ fn cached_risk_after(
 // Returns the critical squares among `squares`, and perhaps others: squares where the arrival of the man
 // on `from`, which isn't the king, might allow mate. It uses the risk of the men as they are, unless the
 // man leaves a line on which it is a hurdle; that never makes the risk smaller.
-#[tactic(auto, using(chess_rules::proofs::listing_moves::Targeting::false_by))]
+#[tactic(auto, using(chess_rules::proofs::Targeting::false_by))]
 pub(crate) fn critical_from(
     king_attack: &KingAttack,
     risk: &Risk,

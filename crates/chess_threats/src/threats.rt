@@ -87,7 +87,7 @@ fn unplain_squares<R: Rules>(board: &Board, man: Man, from: Square) -> Squares
 }
 
 // Returns which of the squares are needed; in Circe all of them.
-#[tactic(auto, using(chess_rules::proofs::listing_moves::Walks::off_second))]
+#[tactic(auto, using(chess_rules::proofs::Walks::off_second))]
 fn unkept_squares<R: Rules>(needed: Squares, squares: Squares) -> Squares
     ensures { (t : ℕ) → t < 64 → (bit_at squares t == 1) ≡ true → (bit_at result t == 1) ≡ false
         → (captures_are_reborn R.rule ≡ false) × ((bit_at needed t == 1) ≡ false) }

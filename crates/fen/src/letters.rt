@@ -4,7 +4,7 @@ ghost use Rattle.fen.specs.Letters.{is_bracketed, letter_of, small_letter};
 
 use chess_core::{Colour, Kind, Man};
 
-/// Returns the small letter of a kind.
+/// Returns the small letter of a kind: `n` for the knight, for the others that of the Popeye manual.
 pub(crate) fn small_letter(kind: Kind) -> u8
     ensures value { result ≡ small_letter kind }
     ensures small { result < 128 }
@@ -22,7 +22,7 @@ pub(crate) fn is_bracketed(kind: Kind) -> bool
     small_letter(kind) == b'n' && !kind.is(Kind::Knight)
 }
 
-/// Returns the letter of a man.
+/// Returns the letter of a man: a capital for White, a small letter for Black.
 pub(crate) fn letter_of(man: Man) -> u8
     ensures value { result ≡ letter_of man }
     ensures small { result < 128 }

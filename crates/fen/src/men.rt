@@ -62,7 +62,7 @@ fn man_of(letter: u8, brackets: bool) -> Option<Man>
     }
 }
 
-// Reads a man, and returns what is left.
+// Reads a man's letter, in its brackets if the text begins with one, and returns the man with the text after it.
 fn read_man(text: &[u8]) -> Result<(Man, &[u8]), NotFen>
     ensures { MatchResult result (λ found. text.now ≡ man_text found.0 ++ found.1.now)
         (λ _. FindsNoMan text.now) }

@@ -88,7 +88,7 @@ fn write_number<W: fmt::Write>(f: &mut fmt::Formatter<W>, empty: u8) -> fmt::Res
     }
 }
 
-// Writes a man.
+// Writes a man's letter, in brackets if it is a knight's too.
 fn write_man<W: fmt::Write>(f: &mut fmt::Formatter<W>, man: Man) -> fmt::Result
     ensures { WritesOnOk W.write_str_gives f.old result (man_text man) f.new }
 {
@@ -146,7 +146,8 @@ fn empty_left(after: u8, empty: u8) -> u8
     if after % 8 > 0 { empty } else { 0 }
 }
 
-// Writes the men and a blank.
+// Writes the ranks from 8 to 1: the letters of men, the numbers of empty squares between them, a slash between two
+// ranks and a blank after the last.
 fn write_men<W: fmt::Write>(f: &mut fmt::Formatter<W>, diagram: &Diagram) -> fmt::Result
     ensures { WritesOnOk W.write_str_gives f.old result (text_from diagram.now.men 64 []) f.new }
 {
@@ -181,7 +182,7 @@ fn is_allowed(rights: Unmoved, king: Square, rook: Square) -> bool
     rights.has(king) && rights.has(rook)
 }
 
-// Writes the castling rights.
+// Writes a letter for each castling whose king and rook haven't moved, or a dash for none.
 fn write_rights<W: fmt::Write>(f: &mut fmt::Formatter<W>, rights: Unmoved) -> fmt::Result
     ensures { WritesOnOk W.write_str_gives f.old result (or_dash (castling_letters rights)) f.new }
 {

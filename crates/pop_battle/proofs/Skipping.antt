@@ -1,6 +1,6 @@
 -- Moves that are skipped, since no reply to them mates.
 use Rattle.pop_battle.proofs.Words.{IfSome, Bool, IsNextKept, IsFirstKept, IsWellFormed, MatchOption, Move, None, Option, Position, RuleSet, Some, [], append-nil, append_assoc, arith, filter, from_map, is_legal, may_be_made, length, min, moves_after, met_after-end, met_after-here, place_of_triple, range_with_len, true, ℕ, ◌+◌, ◌-◌, ◌<◌, ◌^◌, ◌∷◌, ◌≡◌, rules, after_cut, from_range, triples_numbered, all_triples, place_of, triple_at}
-use Rattle.chess_rules.proofs.listing_moves.TripleNumbers.{in_triples, made_is_triple}
+use Rattle.chess_rules.proofs.TripleNumbers.{in_triples, made_is_triple}
 
 module _ (rule : RuleSet) (p : Position) where
   -- a legal move is one of the triples

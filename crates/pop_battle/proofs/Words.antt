@@ -9,12 +9,12 @@ pub use Rattle.std.specs.List.{list_all, list_any, range_with_len, sum_by}
 pub use Rattle.chess_core.specs.Position.{Position}
 pub use Rattle.chess_core.specs.declared.man.Move.{Move}
 pub use Rattle.chess_core.specs.WellFormed.{IsWellFormed}
-pub use Rattle.chess_rules.proofs.listing_moves.Between.{between-here, between-none, between-past, between-skip, cut_moves, after_cut}
+pub use Rattle.chess_rules.proofs.Between.{between-here, between-none, between-past, between-skip, cut_moves, after_cut}
 pub use Rattle.chess_flights.proofs.Mating.{mates_after-are}
 pub use Rattle.chess_rules.proofs.LegalMoves.{may_be_made}
-pub use Rattle.chess_rules.proofs.listing_moves.Members.{from_map, from_range}
-pub use Rattle.chess_rules.proofs.listing_moves.Places.{met_after-end, met_after-here, met_after-skip, place_of_triple, triples_numbered}
-pub use Rattle.chess_rules.proofs.making_moves.Stays.{after_well_formed}
+pub use Rattle.chess_rules.proofs.Members.{from_map, from_range}
+pub use Rattle.chess_rules.proofs.Places.{met_after-end, met_after-here, met_after-skip, place_of_triple, triples_numbered}
+pub use Rattle.chess_rules.proofs.Stays.{after_well_formed}
 pub use Rattle.chess_rules.specs.Legal.{is_nil, moves as legal_moves}
 unfoldable pub use Rattle.chess_rules.specs.Legal.{is_legal, is_mate, is_stalemate, moves}
 pub use Rattle.chess_core.specs.Undo.{Undo}

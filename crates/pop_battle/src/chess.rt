@@ -25,7 +25,7 @@ use pop_stipulation::Goal;
 
 /// Returns a cursor over the legal moves of the board's position, at `place`. Reuses `cursor` if there
 /// is one.
-pub(crate) fn moves_at<R: Rules>(
+pub(crate) fn cursor_at<R: Rules>(
     cursor: Option<LegalCursor<R>>,
     place: MovePlace,
     board: &Board,
@@ -34,12 +34,12 @@ pub(crate) fn moves_at<R: Rules>(
     ensures place { result.place ≡ place }
     ensures within { IsPlaceIn R.rule board.now result }
 {
-    let mut moves = match cursor {
-        Some(moves) => moves,
+    let mut cursor = match cursor {
+        Some(cursor) => cursor,
         None => LegalCursor::of(board),
     };
-    moves.go_to(place);
-    moves
+    cursor.go_to(place);
+    cursor
 }
 
 /// Returns the next legal move after `place` and moves `place` to it, or to the end if there is none.
@@ -63,12 +63,12 @@ pub fn next_move<R: Rules>(
     if cursor.is_none() {
         *cursor = Some(LegalCursor::<R>::of(board));
     }
-    let Some(moves) = cursor else {
+    let Some(cursor) = cursor else {
         return None;
     };
-    moves.go_to(*place);
-    let found = moves.next(board);
-    *place = moves.place();
+    cursor.go_to(*place);
+    let found = cursor.next(board);
+    *place = cursor.place();
     found
 }
 
@@ -105,14 +105,14 @@ pub(crate) fn find_mate<R: Rules>(killer: MovePlace, board: &mut Board) -> Optio
     ensures place { IfSome result (λ place. IsOnMate R.rule board.old place) }
 {
     let before = killer.previous();
-    let mut moves = mate_cursor::<R>(board);
-    moves.go_to(before);
-    if moves.next(board).is_some() {
-        return Some(moves.place());
+    let mut mates = mate_cursor::<R>(board);
+    mates.go_to(before);
+    if mates.next(board).is_some() {
+        return Some(mates.place());
     }
-    moves.go_to(MovePlace::start());
-    if moves.next_until(before, board).is_some() {
-        return Some(moves.place());
+    mates.go_to(MovePlace::start());
+    if mates.next_until(before, board).is_some() {
+        return Some(mates.place());
     }
     None
 }

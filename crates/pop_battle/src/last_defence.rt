@@ -17,7 +17,7 @@ ghost use Rattle.pop_battle.specs.ties.Counts.{HasCounted};
 ghost use Rattle.pop_battle.specs.ties.Frames.{moves_ahead, moves_unlooked};
 ghost use Rattle.pop_battle.specs.ties.Values.{value};
 
-use crate::chess::{find_mate, is_reached_without_move, moves_at};
+use crate::chess::{cursor_at, find_mate, is_reached_without_move};
 use crate::frame::{MoveStage, Order};
 use crate::killers::Killers;
 use crate::move_stages::{next_tried, order_of, place_before};
@@ -74,12 +74,12 @@ fn next_defence<R: Rules>(
 {
     if cursor.is_none() {
         *move_stage = MoveStage::Earlier;
-        *cursor = Some(moves_at::<R>(None, place_before::<R>(order, MoveStage::Earlier), board));
+        *cursor = Some(cursor_at::<R>(None, place_before::<R>(order, MoveStage::Earlier), board));
     }
-    let Some(moves) = cursor else {
+    let Some(cursor) = cursor else {
         return None;
     };
-    next_tried::<R>(order, move_stage, moves, board)
+    next_tried::<R>(order, move_stage, cursor, board)
 }
 
 /// Returns the first defence to try: the killer, tested without listing the moves, or the first move after
@@ -106,7 +106,7 @@ fn first_defence<R: Rules>(
 /// Returns the place of the defence that was found last.
 fn place_of_last<R: Rules>(order: Order, cursor: &Option<LegalCursor<R>>) -> MovePlace {
     match cursor {
-        Some(moves) => moves.place(),
+        Some(cursor) => cursor.place(),
         None => order.killer,
     }
 }
@@ -149,11 +149,11 @@ fn keeps_flight<R: Rules>(board: &mut Board, king: Square) -> bool
         → SomeFails R.rule board.old (allows_mate R.rule board.old) }
 {
     let mut flights = KeptFlights::of::<R>(board, king);
-    let moves = LegalCursor::<R>::of(board);
+    let cursor = LegalCursor::<R>::of(board);
     let kings = board.squares(board.turn(), Kind::King);
     let men = board.side(board.turn()) & !kings;
-    flights.removes_others() && moves.has_removed(&mut flights, board, men)
-        || moves.has_removed(&mut flights, board, kings)
+    flights.removes_others() && cursor.has_removed(&mut flights, board, men)
+        || cursor.has_removed(&mut flights, board, kings)
 }
 
 // The most attackers and the most defenders with which kept flights are computed before any defence is

@@ -51,46 +51,46 @@ fn forces_mate<R: Rules>(
 #[tactic(auto, using(crate::proofs::Skipping::with_filter, crate::proofs::Skipping::without_filter))]
 fn next_unquiet<R: Rules>(
     steps: &mut QuietSteps,
-    moves: &mut LegalCursor<R>,
+    cursor: &mut LegalCursor<R>,
     board: &mut Board,
     counted: &mut u64,
 ) -> Option<Move>
     requires well_formed { IsWellFormed board.old }
-    requires place { IsPlaceIn R.rule board.old moves.old }
+    requires place { IsPlaceIn R.rule board.old cursor.old }
     ensures unchanged { board.new ≡ board.old }
-    ensures within { IsPlaceIn R.rule board.old moves.new }
+    ensures within { IsPlaceIn R.rule board.old cursor.new }
     ensures next { IsNextKept R.rule board.old (must_reply_with_mate R.rule board.old)
-        moves.old.place moves.new.place counted.old counted.new result }
+        cursor.old.place cursor.new.place counted.old counted.new result }
 {
     show_fits_u64(*counted);
     if !steps.are_known(board) {
-        return moves.next(board);
+        return cursor.next(board);
     }
-    let kept = moves.next_kept(steps, board);
+    let kept = cursor.next_kept(steps, board);
     *counted = counted.saturating_add(u64::from(kept.skipped));
     kept.found
 }
 
 /// Returns whether some move after the cursor forces mate. Counts each move up to the first that does.
 fn some_forces_mate<R: Rules>(
-    mut moves: LegalCursor<R>,
+    mut cursor: LegalCursor<R>,
     board: &mut Board,
     threats: &mut KeptThreats,
     counted: &mut u64,
 ) -> bool
     requires well_formed { IsWellFormed board.old }
-    requires place { IsPlaceIn R.rule board.old moves }
+    requires place { IsPlaceIn R.rule board.old cursor }
     requires none { counted.old ≡ 0 }
     ensures unchanged { board.new ≡ board.old }
     ensures value { result ≡ joined_value Selfmate (chess Mate R.rule) 2 board.old
-        (moves_after R.rule board.old moves.place) }
-    ensures none { counted.new ≡ 0 → moves_after R.rule board.old moves.place ≡ [] }
-    ensures opened { counted.new ≤ length (moves_after R.rule board.old moves.place) }
+        (moves_after R.rule board.old cursor.place) }
+    ensures none { counted.new ≡ 0 → moves_after R.rule board.old cursor.place ≡ [] }
+    ensures opened { counted.new ≤ length (moves_after R.rule board.old cursor.place) }
     ensures tried { HasCounted 0 counted.new (smallest_below Selfmate (chess Mate R.rule) 2
-        board.old (moves_after R.rule board.old moves.place)) }
+        board.old (moves_after R.rule board.old cursor.place)) }
 {
     let mut steps = QuietSteps::of(board);
-    while let Some(by) = next_unquiet::<R>(&mut steps, &mut moves, board, counted) {
+    while let Some(by) = next_unquiet::<R>(&mut steps, &mut cursor, board, counted) {
         *counted = counted.saturating_add(1);
         if forces_mate::<R>(steps, by, board, threats) {
             return true;
@@ -109,9 +109,9 @@ pub(crate) fn value_of_last_move<R: Rules>(
     ensures { EvaluatesMate R.rule Selfmate 2 board.old board.new search_state.old.opened
         search_state.new.opened result }
 {
-    let moves = LegalCursor::<R>::of(board);
+    let cursor = LegalCursor::<R>::of(board);
     let mut counted = 0;
-    let forced = some_forces_mate::<R>(moves, board, &mut search_state.threats, &mut counted);
+    let forced = some_forces_mate::<R>(cursor, board, &mut search_state.threats, &mut counted);
     if counted == 0 {
         return is_reached_without_move::<R>(Goal::Mate, board);
     }

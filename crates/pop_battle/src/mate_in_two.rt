@@ -11,7 +11,7 @@ ghost use Rattle.pop_battle.specs.ties.Calls.{EvaluatesMate};
 ghost use Rattle.pop_battle.specs.ties.Counts.{HasCounted, smallest_tree};
 ghost use Rattle.pop_battle.specs.ties.Values.{value};
 
-use crate::chess::moves_at;
+use crate::chess::cursor_at;
 use crate::frame::MoveStage;
 use crate::last_defence::value_of_last_defence;
 use crate::move_stages::{next_tried, order_of};
@@ -48,11 +48,11 @@ pub(crate) fn mates_in_two<R: Rules>(board: &mut Board, search_state: &mut Searc
 {
     search_state.opened = search_state.opened.saturating_add(1);
     let order = order_of(&search_state.killers, Battle::Direct, 3);
-    let mut moves = moves_at::<R>(None, order.killer.previous(), board);
+    let mut cursor = cursor_at::<R>(None, order.killer.previous(), board);
     let mut move_stage = MoveStage::Killer;
-    while let Some(by) = next_tried::<R>(order, &mut move_stage, &mut moves, board) {
+    while let Some(by) = next_tried::<R>(order, &mut move_stage, &mut cursor, board) {
         if leaves_no_defence::<R>(by, board, search_state) {
-            search_state.killers.put(3, moves.place());
+            search_state.killers.put(3, cursor.place());
             return true;
         }
     }

@@ -68,25 +68,25 @@ fn belongs(order: Order, move_stage: MoveStage, place: MovePlace, by: &Move, boa
 fn next_of_move_stage<R: Rules>(
     order: Order,
     move_stage: MoveStage,
-    moves: &mut LegalCursor<R>,
+    cursor: &mut LegalCursor<R>,
     board: &mut Board,
 ) -> Option<Move>
     requires well_formed { IsWellFormed board.old }
-    requires place { IsPlaceIn R.rule board.old moves.old }
-    ensures { Finds R.rule board.old board.new (Some moves.new) result
-        (filter (belongs board.old order move_stage) (moves_after R.rule board.old moves.old.place))
+    requires place { IsPlaceIn R.rule board.old cursor.old }
+    ensures { Finds R.rule board.old board.new (Some cursor.new) result
+        (filter (belongs board.old order move_stage) (moves_after R.rule board.old cursor.old.place))
         (filter (belongs board.old order move_stage)
-        (moves_after R.rule board.old moves.new.place)) }
+        (moves_after R.rule board.old cursor.new.place)) }
 {
-    while let Some(by) = moves.next(board) {
-        if belongs(order, move_stage, moves.place(), &by, board) {
+    while let Some(by) = cursor.next(board) {
+        if belongs(order, move_stage, cursor.place(), &by, board) {
             return Some(by);
         }
     }
     None
 }
 
-/// Returns whether the place is that of a killer.
+/// Returns whether the move at this place is one of the two killers, which have stages of their own.
 fn is_killer(order: Order, place: MovePlace) -> bool
     ensures { result ≡ (place == order.killer || place == order.earlier) }
 {
@@ -95,17 +95,21 @@ fn is_killer(order: Order, place: MovePlace) -> bool
 
 /// Returns the next move after the cursor that gives check or attacks next to the king and is no killer.
 #[tactic(auto, using(crate::proofs::Orders::aimed_filtered))]
-fn next_early<R: Rules>(order: Order, moves: &mut LegalCursor<R>, board: &mut Board) -> Option<Move>
+fn next_early<R: Rules>(
+    order: Order,
+    cursor: &mut LegalCursor<R>,
+    board: &mut Board,
+) -> Option<Move>
     requires well_formed { IsWellFormed board.old }
-    requires place { IsPlaceIn R.rule board.old moves.old }
+    requires place { IsPlaceIn R.rule board.old cursor.old }
     requires early { order.early ≡ AimedMoves }
-    ensures { Finds R.rule board.old board.new (Some moves.new) result
-        (filter (belongs board.old order Aimed) (moves_after R.rule board.old moves.old.place))
+    ensures { Finds R.rule board.old board.new (Some cursor.new) result
+        (filter (belongs board.old order Aimed) (moves_after R.rule board.old cursor.old.place))
         (filter (belongs board.old order Aimed)
-        (moves_after R.rule board.old moves.new.place)) }
+        (moves_after R.rule board.old cursor.new.place)) }
 {
-    while let Some(by) = next_aimed::<R>(moves, board) {
-        if !is_killer(order, moves.place()) {
+    while let Some(by) = next_aimed::<R>(cursor, board) {
+        if !is_killer(order, cursor.place()) {
             return Some(by);
         }
     }
@@ -117,21 +121,21 @@ fn next_early<R: Rules>(order: Order, moves: &mut LegalCursor<R>, board: &mut Bo
 fn next_here<R: Rules>(
     order: Order,
     move_stage: MoveStage,
-    moves: &mut LegalCursor<R>,
+    cursor: &mut LegalCursor<R>,
     board: &mut Board,
 ) -> Option<Move>
     requires well_formed { IsWellFormed board.old }
-    requires place { IsPlaceIn R.rule board.old moves.old }
-    ensures { Finds R.rule board.old board.new (Some moves.new) result
-        (moves_here R.rule board.old order move_stage moves.old.place)
-        (moves_here R.rule board.old order move_stage moves.new.place) }
+    requires place { IsPlaceIn R.rule board.old cursor.old }
+    ensures { Finds R.rule board.old board.new (Some cursor.new) result
+        (moves_here R.rule board.old order move_stage cursor.old.place)
+        (moves_here R.rule board.old order move_stage cursor.new.place) }
 {
     match (move_stage, order.early) {
-        (MoveStage::Killer, _) => moves.next_until(order.killer, board),
-        (MoveStage::Earlier, _) => moves.next_until(order.earlier, board),
-        (MoveStage::Aimed, Early::AimedMoves) => next_early::<R>(order, moves, board),
+        (MoveStage::Killer, _) => cursor.next_until(order.killer, board),
+        (MoveStage::Earlier, _) => cursor.next_until(order.earlier, board),
+        (MoveStage::Aimed, Early::AimedMoves) => next_early::<R>(order, cursor, board),
         (MoveStage::Aimed, Early::NoMoves) | (MoveStage::Others, _) => {
-            next_of_move_stage::<R>(order, move_stage, moves, board)
+            next_of_move_stage::<R>(order, move_stage, cursor, board)
         }
     }
 }
@@ -171,23 +175,23 @@ pub(crate) fn place_before<R: Rules>(order: Order, move_stage: MoveStage) -> Mov
 pub(crate) fn next_tried<R: Rules>(
     order: Order,
     move_stage: &mut MoveStage,
-    moves: &mut LegalCursor<R>,
+    cursor: &mut LegalCursor<R>,
     board: &mut Board,
 ) -> Option<Move>
     requires well_formed { IsWellFormed board.old }
-    requires place { IsPlaceIn R.rule board.old moves.old }
-    ensures { Finds R.rule board.old board.new (Some moves.new) result
-        (moves_ahead R.rule board.old order move_stage.old moves.old.place)
-        (moves_ahead R.rule board.old order move_stage.new moves.new.place) }
+    requires place { IsPlaceIn R.rule board.old cursor.old }
+    ensures { Finds R.rule board.old board.new (Some cursor.new) result
+        (moves_ahead R.rule board.old order move_stage.old cursor.old.place)
+        (moves_ahead R.rule board.old order move_stage.new cursor.new.place) }
 {
     loop {
-        if let Some(by) = next_here::<R>(order, *move_stage, moves, board) {
+        if let Some(by) = next_here::<R>(order, *move_stage, cursor, board) {
             return Some(by);
         }
         let Some(following) = move_stage_after::<R>(order, *move_stage) else {
             return None;
         };
         *move_stage = following;
-        moves.go_to(place_before::<R>(order, following));
+        cursor.go_to(place_before::<R>(order, following));
     }
 }

@@ -16,7 +16,7 @@ ghost use Rattle.pop_battle.specs.ties.Frames.{CameFrom, CameFromAt, Ends, IsOpe
 ghost use Rattle.pop_battle.specs.ties.Values.{attacker_to_move, joined_value, value};
 
 use crate::aim::Aim;
-use crate::chess::{cursor_if_any_move, is_reached_without_move, moves_at, reaches_goal};
+use crate::chess::{cursor_at, cursor_if_any_move, is_reached_without_move, reaches_goal};
 use crate::frame::{Frame, MoveStage};
 use crate::last_defence::{has_mate, value_of_last_defence};
 use crate::last_move::value_of_last_move;
@@ -257,15 +257,15 @@ fn turn<R: Rules, const N: usize>(
         search_state.killers.put(top.left, top.place);
         return close::<R>(seek, floor, depth, top, board, answer);
     }
-    let mut moves = moves_at::<R>(top.cursor, top.place, board);
+    let mut cursor = cursor_at::<R>(top.cursor, top.place, board);
     let mut move_stage = top.move_stage;
-    let Some(by) = next_tried::<R>(top.order, &mut move_stage, &mut moves, board) else {
+    let Some(by) = next_tried::<R>(top.order, &mut move_stage, &mut cursor, board) else {
         return close::<R>(!seek, floor, depth, top, board, answer);
     };
     let moved = Frame {
-        place: moves.place(),
+        place: cursor.place(),
         move_stage,
-        cursor: Some(moves),
+        cursor: Some(cursor),
         ..top
     };
     *answer = descend::<R, N>(aim, moved, by, board, frames, search_state);

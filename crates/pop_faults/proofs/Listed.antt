@@ -10,9 +10,9 @@ use Rattle.pop_input.proofs.Taking.{some_rest}
 use Rattle.pop_input.specs.Blocks.{Entry, Sound as SoundEntry, Faulty as FaultyEntry}
 use Rattle.pop_input.specs.declared.item.Item.{Item}
 use Rattle.pop_input.specs.declared.item.Item.TheVariants.{Sound, Faulty, End}
-use Rattle.pop_input.specs.declared.place.Place.{Place}
+use Rattle.pop_input.specs.declared.span.Span.{Span}
 use Rattle.pop_input.specs.declared.reader.Next.TheVariants.{Nothing}
-use Rattle.pop_input.specs.ties.Places.{HasPlace}
+use Rattle.pop_input.specs.ties.Spans.{HasSpan}
 use Rattle.pop_input.specs.ties.ReaderState.{NextItem, ReaderState, Reads, entries_left, initial_state, is_item}
 use Rattle.pop_input.specs.ties.Used.{UsesEntry, UsesItem}
 use Rattle.pop_run.proofs.Meeting.{is_broken, met_after}
@@ -30,7 +30,7 @@ use Rattle.pop_faults.specs.ties.ReadItems.{item_text, status_after}
 
 -- Lists of items.
 
--- the items of two lists without their places
+-- the items of two lists without their spans
 entries-append : (xs ys : List Located) → entries_of (xs ++ ys) ≡ entries_of xs ++ entries_of ys
 entries-append [] ys = refl
 entries-append (x ∷ xs) ys = ap (λ entries. x.entry ∷ entries) (entries-append xs ys)
@@ -50,21 +50,21 @@ located_then old mid new had between left (x ∷ xs) ys (at, middle, one, others
 -- One item.
 
 -- what a call of the reader says of the item that it returned
-record Took (old new : ReaderState) (had left : Option (List ℕ)) (item : Item) (place : Place) : Type 0 where
+record Took (old new : ReaderState) (had left : Option (List ℕ)) (item : Item) (span : Span) : Type 0 where
   it : Located
   is : IsLocated old new had left it
   reads : Reads old new had left (it.entry ∷ [])
   used : UsesEntry old new had left it.entry
   more : ends old.next ≡ false
-  text : (number : ℕ) → item_text number item place ≡ entry_line number it.entry it.place
+  text : (number : ℕ) → item_text number item span ≡ entry_line number it.entry it.span
   status : (so_far : Status) → status_after so_far item ≡ status_with so_far (reports_device_failure it.entry) (is_faulty it.entry)
 
-took : (old new : ReaderState) (had left : Option (List ℕ)) (item : Item) (place : Place) → NextItem old new had left item
-    → HasPlace old new had left item place → UsesItem old new had left item → is_item item ≡ true → Took old new had left item place
-took old new had left (Sound posed last) place next found used one =
+took : (old new : ReaderState) (had left : Option (List ℕ)) (item : Item) (span : Span) → NextItem old new had left item
+    → HasSpan old new had left item span → UsesItem old new had left item → is_item item ≡ true → Took old new had left item span
+took old new had left (Sound posed last) span next found used one =
     let rest = some_rest new.at.end in
     record {
-      it = record { entry = SoundEntry posed; place = place };
+      it = record { entry = SoundEntry posed; span = span };
       is = record { last = last; read = next; used = used; found = found };
       reads = next.0;
       used = used;
@@ -72,10 +72,10 @@ took old new had left (Sound posed last) place next found used one =
       text = λ number. refl;
       status = λ so_far. refl;
     }
-took old new had left (Faulty fault last) place next found used one =
+took old new had left (Faulty fault last) span next found used one =
     let rest = some_rest new.at.end in
     record {
-      it = record { entry = FaultyEntry fault; place = place };
+      it = record { entry = FaultyEntry fault; span = span };
       is = record { last = last; read = next; used = used; found = found };
       reads = next.0;
       used = used;
@@ -83,7 +83,7 @@ took old new had left (Faulty fault last) place next found used one =
       text = λ number. refl;
       status = λ so_far. refl;
     }
-took old new had left End place next found used one = absurd (let no : false ≡ true = one in cc)
+took old new had left End span next found used one = absurd (let no : false ≡ true = one in cc)
 
 -- All items so far.
 
@@ -110,8 +110,8 @@ listed_start had before = record {
   reached = reached_start had;
 }
 
-module _ (old new : ReaderState) (number : ℕ) (so_far : Status) (had mid left before taken : Option (List ℕ)) (item : Item) (place : Place)
-    (p : Listed old number so_far had mid before taken) (t : Took old new mid left item place) where
+module _ (old new : ReaderState) (number : ℕ) (so_far : Status) (had mid left before taken : Option (List ℕ)) (item : Item) (span : Span)
+    (p : Listed old number so_far had mid before taken) (t : Took old new mid left item span) where
   -- the items with this one
   abbrev items : List Located
   items = p.items ++ t.it ∷ []
@@ -123,15 +123,15 @@ module _ (old new : ReaderState) (number : ℕ) (so_far : Status) (had mid left 
   reads = rw (entries-append p.items (t.it ∷ []))
       (reads_then initial_state old new had mid left (entries_of p.items) (t.it.entry ∷ []) p.reads t.reads)
 
-  list : faults_from 1 items ≡ faults_from 1 p.items ++ item_text number item place
+  list : faults_from 1 items ≡ faults_from 1 p.items ++ item_text number item span
   list = faults-append 1 p.items (t.it ∷ []) ∙ ap (λ text. faults_from 1 p.items ++ text) (
-      append-nil (entry_line (1 + length p.items) t.it.entry t.it.place)
-      ∙ ap (λ n. entry_line n t.it.entry t.it.place) (sym p.number_is)
+      append-nil (entry_line (1 + length p.items) t.it.entry t.it.span)
+      ∙ ap (λ n. entry_line n t.it.entry t.it.span) (sym p.number_is)
       ∙ sym (t.text number)
       )
 
   -- one more item is read, and its line written
-  listed_more : (now : Option (List ℕ)) → Appends taken now (item_text number item place)
+  listed_more : (now : Option (List ℕ)) → Appends taken now (item_text number item span)
       → Listed new (number + 1) (status_after so_far item) had left before now
   listed_more now written = record {
     items = items;
@@ -148,12 +148,12 @@ module _ (old new : ReaderState) (number : ℕ) (so_far : Status) (had mid left 
   stops = item_stops old new had mid left p.reached t.more t.it.entry t.used
 
 -- one more item is read, and its line written
-pub listed_step : (old new : ReaderState) (number : ℕ) (so_far : Status) (had mid left before taken now : Option (List ℕ)) (item : Item) (place : Place)
-    → Listed old number so_far had mid before taken → NextItem old new mid left item → HasPlace old new mid left item place
-    → UsesItem old new mid left item → is_item item ≡ true → Appends taken now (item_text number item place)
+pub listed_step : (old new : ReaderState) (number : ℕ) (so_far : Status) (had mid left before taken now : Option (List ℕ)) (item : Item) (span : Span)
+    → Listed old number so_far had mid before taken → NextItem old new mid left item → HasSpan old new mid left item span
+    → UsesItem old new mid left item → is_item item ≡ true → Appends taken now (item_text number item span)
     → Listed new (number + 1) (status_after so_far item) had left before now
-listed_step old new number so_far had mid left before taken now item place p next found used one written =
-    listed_more old new number so_far had mid left before taken item place p (took old new mid left item place next found used one) now written
+listed_step old new number so_far had mid left before taken now item span p next found used one written =
+    listed_more old new number so_far had mid left before taken item span p (took old new mid left item span next found used one) now written
 
 -- the entries that were read come first in the input that was met
 entries_met : (now : ReaderState) (left : Option (List ℕ)) (r : List ℕ) (entries : List Entry) → Reads initial_state now (Some r) left entries
@@ -208,34 +208,34 @@ end_reads old new number so_far (Some r) mid left before now item n m p next use
     rw (grew_broken new.at.end n m reads) (stopped_reads new r left (rw (over.1, over.2) (stopped_last p.reached last)) seen few)
 
 -- a run whose sink fails writes a beginning of the list of the items that it has read
-pub run_cut : (old new : ReaderState) (number : ℕ) (so_far : Status) (had mid left before taken now : Option (List ℕ)) (item : Item) (place : Place)
-    (n m v w : ℕ) → Listed old number so_far had mid before taken → NextItem old new mid left item → HasPlace old new mid left item place
-    → UsesItem old new mid left item → is_item item ≡ true → IsEndSeen new.at.end left → Begins taken now (item_text number item place)
+pub run_cut : (old new : ReaderState) (number : ℕ) (so_far : Status) (had mid left before taken now : Option (List ℕ)) (item : Item) (span : Span)
+    (n m v w : ℕ) → Listed old number so_far had mid before taken → NextItem old new mid left item → HasSpan old new mid left item span
+    → UsesItem old new mid left item → is_item item ≡ true → IsEndSeen new.at.end left → Begins taken now (item_text number item span)
     → m ≡ failures_after Open new.at.end n → w ≡ v + 1
     → IfSome had (λ r. ListsFaults r left (has_grown n m) before now (has_grown v w) OutputFailed)
-run_cut old new number so_far None mid left before taken now item place n m v w p next found used one seen begun reads writes = tt
-run_cut old new number so_far (Some r) mid left before taken now item place n m v w p next found used one seen begun reads_failed writes =
-    let t = took old new mid left item place next found used one in
-    let all = reads old new number so_far (Some r) mid left before taken item place p t in
+run_cut old new number so_far None mid left before taken now item span n m v w p next found used one seen begun reads writes = tt
+run_cut old new number so_far (Some r) mid left before taken now item span n m v w p next found used one seen begun reads_failed writes =
+    let t = took old new mid left item span next found used one in
+    let all = reads old new number so_far (Some r) mid left before taken item span p t in
     let met = entries_met new left r _ all seen in
-    let text = list old new number so_far (Some r) mid left before taken item place p t in
+    let text = list old new number so_far (Some r) mid left before taken item span p t in
     rw (grew_broken new.at.end n m reads_failed, writes, grew_more v) (record {
-      items = items old new number so_far (Some r) mid left before taken item place p t;
+      items = items old new number so_far (Some r) mid left before taken item span p t;
       at = new;
-      located = located old new number so_far (Some r) mid left before taken item place p t;
+      located = located old new number so_far (Some r) mid left before taken item span p t;
       lists = (met.0, met.1, rw text (begins_later before taken now (faults_from 1 p.items) _ p.written begun), refl);
     })
 
 -- how far it has read
-pub cut_reads : (old new : ReaderState) (number : ℕ) (so_far : Status) (had mid left before taken : Option (List ℕ)) (item : Item) (place : Place)
-    (n m : ℕ) → Listed old number so_far had mid before taken → NextItem old new mid left item → HasPlace old new mid left item place
+pub cut_reads : (old new : ReaderState) (number : ℕ) (so_far : Status) (had mid left before taken : Option (List ℕ)) (item : Item) (span : Span)
+    (n m : ℕ) → Listed old number so_far had mid before taken → NextItem old new mid left item → HasSpan old new mid left item span
     → UsesItem old new mid left item → is_item item ≡ true → IsEndSeen new.at.end left → length new.at.window ≤ 4096
     → m ≡ failures_after Open new.at.end n → IfSome had (λ r. ReadsUpTo (input_met (has_grown n m) r left) (taken_of r left))
-cut_reads old new number so_far None mid left before taken item place n m p next found used one seen few reads_failed = tt
-cut_reads old new number so_far (Some r) mid left before taken item place n m p next found used one seen few reads_failed =
-    let t = took old new mid left item place next found used one in
+cut_reads old new number so_far None mid left before taken item span n m p next found used one seen few reads_failed = tt
+cut_reads old new number so_far (Some r) mid left before taken item span n m p next found used one seen few reads_failed =
+    let t = took old new mid left item span next found used one in
     rw (grew_broken new.at.end n m reads_failed)
-    (stopped_reads new r left (stops old new number so_far (Some r) mid left before taken item place p t) seen few)
+    (stopped_reads new r left (stops old new number so_far (Some r) mid left before taken item span p t) seen few)
 
 -- whether an item was returned, by the test of the code
 pub item_there : (one found : Bool) → found ≡ not one → found ≡ false → one ≡ true

@@ -1,2 +1,2 @@
 -- What the definitions mean, for readers: theorems that hold for every input.
-pub mod Places
+pub mod Spans

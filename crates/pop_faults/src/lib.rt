@@ -1,4 +1,4 @@
-//! The list of an input's faults, each with the place where it is found.
+//! The list of an input's faults, each with its span, the bytes where it is found.
 //!
 //! ```rust
 //! use pop_faults::list_faults;
@@ -12,7 +12,7 @@
 //! ```
 //!
 //! The interface is `list_faults`. `specs/FaultList.antt` defines the text of the list, `specs/ties/FaultRuns.antt` what
-//! the call does, by the places of `pop_input`.
+//! the call does, by the spans of `pop_input`.
 #![tactic(auto)]
 
 pub mod listing;

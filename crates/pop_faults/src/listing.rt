@@ -9,7 +9,7 @@ ghost use Rattle.pop_faults.specs.FaultList.{fault_line};
 ghost use Rattle.pop_faults.specs.ties.FaultRuns.{ListsFaults};
 ghost use Rattle.pop_faults.specs.ties.ReadItems.{item_text, status_after};
 
-use pop_input::{Fault, Item, Place, Reader};
+use pop_input::{Fault, Item, Reader, Span};
 use pop_print::line::{LONGEST, LineBuffer};
 use pop_run::Status;
 use pop_text::{Sink, SinkFault, Source};
@@ -41,11 +41,11 @@ pub fn list_faults<S: Source, W: Sink>(source: &mut S, sink: &mut W) -> Status
     let mut number: u64 = 1;
     let mut status = Status::Sound;
     loop {
-        let (item, place) = reader.next_placed(source);
+        let (item, span) = reader.next_with_span(source);
         if is_end(&item) {
             return status;
         }
-        match put_item(sink, number, &item, place) {
+        match put_item(sink, number, &item, span) {
             Ok(()) => {
                 status = status_after(status, &item);
                 number += 1;
@@ -66,40 +66,35 @@ fn is_end(item: &Item) -> bool
 }
 
 // Writes the line of an item, if it is faulty.
-fn put_item<W: Sink>(sink: &mut W, number: u64, item: &Item, place: Place) -> Result<(), SinkFault>
+fn put_item<W: Sink>(sink: &mut W, number: u64, item: &Item, span: Span) -> Result<(), SinkFault>
     requires { W.failures sink.old < greatest_count }
-    ensures bytes { Writes (W.taken sink.old) (W.taken sink.new) (item_text number item.now place)
+    ensures bytes { Writes (W.taken sink.old) (W.taken sink.new) (item_text number item.now span)
         result }
     ensures counted { W.failures sink.new ≡ count_after result (W.failures sink.old) }
 {
     match item {
         Item::Sound(_, _) | Item::End => Ok(()),
-        Item::Faulty(fault, _) => put_fault(sink, number, fault, place),
+        Item::Faulty(fault, _) => put_fault(sink, number, fault, span),
     }
 }
 
 // Writes the line of a faulty item.
-fn put_fault<W: Sink>(
-    sink: &mut W,
-    number: u64,
-    fault: &Fault,
-    place: Place,
-) -> Result<(), SinkFault>
+fn put_fault<W: Sink>(sink: &mut W, number: u64, fault: &Fault, span: Span) -> Result<(), SinkFault>
     requires { W.failures sink.old < greatest_count }
     ensures bytes { Writes (W.taken sink.old) (W.taken sink.new)
-        (fault_line number fault.now place) result }
+        (fault_line number fault.now span) result }
     ensures counted { W.failures sink.new ≡ count_after result (W.failures sink.old) }
 {
     let mut line = LineBuffer::<LONGEST>::new();
-    add_fault(&mut line, number, fault, place);
+    add_fault(&mut line, number, fault, span);
     line.put(sink)
 }
 
 // Adds the line of a faulty item.
 #[tactic(auto, unfolding(crate::specs::FaultList::fault_line))]
-fn add_fault<const N: usize>(line: &mut LineBuffer<N>, number: u64, fault: &Fault, place: Place)
+fn add_fault<const N: usize>(line: &mut LineBuffer<N>, number: u64, fault: &Fault, span: Span)
     requires { length line.old + LONGEST_LINE ≤ N }
-    ensures { line.new ≡ line.old ++ fault_line number fault.now place }
+    ensures { line.new ≡ line.old ++ fault_line number fault.now span }
 {
     line.add_number(number);
     line.add(b": fault ");
@@ -107,9 +102,9 @@ fn add_fault<const N: usize>(line: &mut LineBuffer<N>, number: u64, fault: &Faul
     line.add(b", line ");
     line.add_number(fault.line);
     line.add(b", bytes ");
-    line.add_number(u64::from(place.start));
+    line.add_number(u64::from(span.start));
     line.add(b" up to ");
-    line.add_number(u64::from(place.end));
+    line.add_number(u64::from(span.end));
     line.add(b"\n");
 }
 

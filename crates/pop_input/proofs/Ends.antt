@@ -8,7 +8,7 @@ use Rattle.pop_input.specs.declared.item.Item.TheVariants.{Faulty as FaultyItem}
 use Rattle.pop_input.specs.declared.item.Last.{Last}
 use Rattle.pop_input.specs.declared.names.Command.TheVariants.{Next as NextProblem, Last as EndProblem}
 use Rattle.pop_input.specs.declared.reader.Next.{Next}
-pub use Rattle.pop_input.specs.ties.Places.{is_first}
+pub use Rattle.pop_input.specs.ties.Spans.{is_first}
 use Rattle.pop_input.proofs.Taking.{takes_then}
 use Rattle.pop_input.proofs.Blocks.{next_entries, last_entries, ended_entries}
 use Rattle.pop_input.proofs.Items.{BlockSoFar, word_read, takes_more}

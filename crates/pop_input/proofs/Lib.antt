@@ -12,7 +12,7 @@ mod Rows
 pub mod Excluded
 pub mod Naming
 pub mod Skipping
-pub mod Places
+pub mod Spans
 pub mod Pieces
 pub mod theorems
 mod ExampleOfBlocks

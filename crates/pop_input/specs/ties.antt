@@ -1,5 +1,5 @@
 pub mod Closings
-pub mod Places
+pub mod Spans
 pub mod ReaderState
 pub mod Tokens
 pub mod Used

@@ -23,7 +23,7 @@
 //! assert!(rt; sound == 1 && faulty == 1);
 //! ```
 //!
-//! The interface is `reader` (`Reader`), `item` (`Item`, `Fault`, `Last`), `place`, `problem`, `condition` and
+//! The interface is `reader` (`Reader`), `item` (`Item`, `Fault`, `Last`), `span`, `problem`, `condition` and
 //! `fault_kind`. The other modules are internal: `block` holds one problem while it is read, `draft` what its words say
 //! so far, and `names` and `values` read single words.
 //!
@@ -38,10 +38,10 @@ mod draft;
 pub mod fault_kind;
 pub mod item;
 mod names;
-pub mod place;
 pub mod problem;
 pub mod reader;
 mod short_word;
+pub mod span;
 mod switches;
 mod token;
 mod values;
@@ -49,7 +49,7 @@ mod values;
 pub use crate::condition::Condition;
 pub use crate::fault_kind::FaultKind;
 pub use crate::item::{Fault, Item, Last};
-pub use crate::place::Place;
 pub use crate::problem::Problem;
 pub use crate::reader::{Next, Reader};
+pub use crate::span::Span;
 pub use pop_stipulation::{Form, Goal, MOST_FRAMES, MOST_MOVES, Stipulation};

@@ -7,7 +7,7 @@ ghost use Rattle.pop_text.specs.ties.Plain.{Skips};
 ghost use Rattle.pop_text.specs.declared.scanner.End.{End};
 ghost use Rattle.pop_input.specs.declared.reader.Next.{Next};
 ghost use Rattle.pop_input.specs.ties.ReaderState.{HasFailed, NextItem, initial_state, is_item, next_after as following, work_left};
-ghost use Rattle.pop_input.specs.ties.Places.{HasPlace};
+ghost use Rattle.pop_input.specs.ties.Spans.{HasSpan};
 ghost use Rattle.pop_input.specs.ties.Used.{UsesItem};
 ghost use Rattle.pop_input.specs.ties.Closings.{ReadsWord, cut_fault, last_of, item_of_cut};
 ghost use Rattle.pop_input.specs.Names.{command_of};
@@ -16,8 +16,8 @@ use crate::block::Block;
 use crate::fault_kind::FaultKind;
 use crate::item::{Fault, Item, Last};
 use crate::names::Command;
-use crate::place::Place;
 use crate::short_word::ShortWord;
+use crate::span::Span;
 use crate::token::{ReadToken, next_token};
 use pop_text::read_fault::ReadFault;
 use pop_text::scanner::Scanner;
@@ -107,17 +107,17 @@ impl Reader {
         ensures failed { HasFailed self.new.at result }
         ensures less { is_item result ≡ true → work_left self.new < work_left self.old }
     {
-        self.next_placed(source).0
+        self.next_with_span(source).0
     }
 
-    /// Reads the item that `next_problem` would return, and returns it with its place: that of the first faulty word of
+    /// Reads the item that `next_problem` would return, and returns it with its span: that of the first faulty word of
     /// the problem; else of the word that closes it; else the empty range where the input ends or is cut.
-    pub fn next_placed<S: Source>(&mut self, source: &mut S) -> (Item, Place)
+    pub fn next_with_span<S: Source>(&mut self, source: &mut S) -> (Item, Span)
         requires { self.old.next ≢ Next.Nothing → self.old.at.end ≡ End.Open
             → S.failures source.old < greatest_count }
         ensures item { NextItem self.old self.new (S.remaining source.old) (S.remaining source.new)
             result.0 }
-        ensures place { HasPlace self.old self.new (S.remaining source.old) (S.remaining source.new)
+        ensures span { HasSpan self.old self.new (S.remaining source.old) (S.remaining source.new)
             result.0 result.1 }
         ensures used { UsesItem self.old self.new (S.remaining source.old) (S.remaining source.new)
             result.0 }
@@ -131,42 +131,42 @@ impl Reader {
         ensures failed { HasFailed self.new.at result.0 }
         ensures less { is_item result.0 ≡ true → work_left self.new < work_left self.old }
     {
-        let mut place = Place { start: 0, end: 0 };
+        let mut span = Span { start: 0, end: 0 };
         let mut block = match self.next_block {
             Next::First => Block::first(),
             Next::Later => Block::later(),
-            Next::Nothing => return (Item::End, place),
+            Next::Nothing => return (Item::End, span),
         };
         let mut word = Word::new();
         let mut text = Text::empty();
-        let mut here = place;
+        let mut here = span;
         loop {
             match next_token(&mut self.scanner, source, &mut word, &mut text, &mut here) {
                 ReadToken::Line(keyword) => block.note(keyword, &text),
                 ReadToken::TooLong(line) => {
-                    place = place.after(block.fault, here);
+                    span = span.after(block.fault, here);
                     block.read_long(line);
                 }
                 ReadToken::Word => {
-                    place = place.after(block.fault, here);
+                    span = span.after(block.fault, here);
                     match read_word(&mut block, &word) {
                         Some(last) => {
                             self.next_block = next_after(last);
-                            return (block.item_at_close(word.line, last), place);
+                            return (block.item_at_close(word.line, last), span);
                         }
                         None => skip_on(&mut self.scanner, block.fault),
                     }
                 }
                 ReadToken::Ended(line) => {
                     self.next_block = Next::Nothing;
-                    place = place.after(block.fault, here);
-                    return (block.item_at_end(line), place);
+                    span = span.after(block.fault, here);
+                    return (block.item_at_end(line), span);
                 }
                 ReadToken::Cut(cut) => {
                     let (fault, last) = item_of_cut(block.fault, cut);
                     self.next_block = next_after(last);
-                    place = place.after(block.fault, here);
-                    return (Item::Faulty(fault, last), place);
+                    span = span.after(block.fault, here);
+                    return (Item::Faulty(fault, last), span);
                 }
             }
         }

@@ -2,10 +2,10 @@
 ghost use Rattle.std.specs.Prelude.{◌≡◌, ◌≤◌, length};
 ghost use Rattle.pop_text.specs.Words.{is_gap, limit, window_size};
 ghost use Rattle.pop_text.specs.ties.Reading.{CallsSource, MayCall, UsesAll};
-ghost use Rattle.pop_input.specs.ties.Tokens.{IsGapOver, IsPlaceOf, NextToken, UsesToken, range_of};
+ghost use Rattle.pop_input.specs.ties.Tokens.{IsGapOver, IsSpanOf, NextToken, UsesToken, range_of};
 
 use crate::names::{TextWord, text_word_of};
-use crate::place::Place;
+use crate::span::Span;
 use pop_text::read_fault::ReadFault;
 use pop_text::scanner::{Found, Scanner};
 use pop_text::source::Source;
@@ -27,22 +27,22 @@ pub enum ReadToken {
     Cut(ReadFault),
 }
 
-/// Reads the next token, and stores it in `word` or `text`. Stores its range in `place` if it is a word, else the empty
+/// Reads the next token, and stores it in `word` or `text`. Stores its range in `span` if it is a word, else the empty
 /// range after it.
 pub(crate) fn next_token<S: Source>(
     scanner: &mut Scanner,
     source: &mut S,
     word: &mut Word,
     text: &mut Text,
-    place: &mut Place,
+    span: &mut Span,
 ) -> ReadToken
     requires { MayCall scanner.old.end (S.failures source.old) }
     ensures token { NextToken scanner.old scanner.new (S.remaining source.old)
         (S.remaining source.new) word.new text.new result }
     ensures used { UsesToken scanner.old scanner.new (S.remaining source.old)
         (S.remaining source.new) word.new result }
-    ensures place { IsPlaceOf scanner.old scanner.new (S.remaining source.old)
-        (S.remaining source.new) word.new place.new result }
+    ensures span { IsSpanOf scanner.old scanner.new (S.remaining source.old)
+        (S.remaining source.new) word.new span.new result }
     ensures within { scanner.new.used ≤ limit }
     ensures waits { length scanner.new.window ≤ window_size }
     ensures calls_source { CallsSource scanner.old.end scanner.new.end (S.remaining source.old)
@@ -52,7 +52,7 @@ pub(crate) fn next_token<S: Source>(
     let token = read_token(scanner, source, word, text);
     let end = scanner.used();
     let range = range_of(token, start, end);
-    *place = range;
+    *span = range;
     token
 }
 
@@ -72,12 +72,12 @@ fn skip_to_token<S: Source>(scanner: &mut Scanner, source: &mut S) -> u32
 }
 
 // Returns the range of a word from `start` to `end`, and the empty range at `end` of any other token.
-fn range_of(token: ReadToken, start: u32, end: u32) -> Place
+fn range_of(token: ReadToken, start: u32, end: u32) -> Span
     ensures { result ≡ range_of token start end }
 {
     match token {
-        ReadToken::Word | ReadToken::TooLong(_) => Place { start, end },
-        ReadToken::Line(_) | ReadToken::Ended(_) | ReadToken::Cut(_) => Place { start: end, end },
+        ReadToken::Word | ReadToken::TooLong(_) => Span { start, end },
+        ReadToken::Line(_) | ReadToken::Ended(_) | ReadToken::Cut(_) => Span { start: end, end },
     }
 }
 

@@ -3,7 +3,7 @@ use Rattle.pop_parts.proofs.Words.{AllPairs, Bool, Contains, Game, IsPlayable, L
 use Rattle.std.proofs.lemmas.List.Folds.{flat_map-map}
 use Rattle.std.proofs.lemmas.Simd.{map-map}
 use Rattle.chess_core.specs.Move.{same_move}
-use Rattle.chess_rules.proofs.listing_moves.Members.{pairs_first, pairs_later}
+use Rattle.chess_rules.proofs.Members.{pairs_first, pairs_later}
 use Rattle.pop_walk.proofs.Trees.{flat-same}
 
 -- lists joined

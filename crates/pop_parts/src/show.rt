@@ -159,7 +159,7 @@ fn show_under<R: Rules, W: Sink>(
     Ok(Outcome::Shown)
 }
 
-// Returns whether the problem has the phase.
+// Returns whether the problem has the phase: the play always, set play if its options ask for it.
 fn has_phase(problem: &Problem, phase: Phase) -> bool
     ensures { result ≡ has_the_phase problem.now phase }
 {

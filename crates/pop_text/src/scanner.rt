@@ -240,7 +240,7 @@ impl Scanner {
     }
 
     // Uses the run at the front, and returns whether it fits the word.
-    fn take_run<S: Source>(
+    fn read_run<S: Source>(
         &mut self,
         source: &mut S,
         word: &mut ArrayVec<u8, LONGEST_WORD>,
@@ -331,7 +331,7 @@ impl Scanner {
                 let line = self.line;
                 word.line = line;
                 word.bytes = ArrayVec::new();
-                let run = self.take_run(source, &mut word.bytes);
+                let run = self.read_run(source, &mut word.bytes);
                 found_of_run(run, line)
             }
         }

@@ -35,7 +35,7 @@ impl Model for Text {
 }
 
 impl Text {
-    /// Returns the empty text.
+    /// Returns the text of no bytes, as the title of a problem that names none.
     pub fn empty() -> Text
         ensures { result ≡ [] }
     {

@@ -28,9 +28,9 @@ use Rattle.std.specs.List.{range_with_len}
 use Rattle.pop_tries.proofs.Words.{ap, from_map, may_be_made}
 use Rattle.chess_rules.specs.Legal.{is_legal}
 use Rattle.chess_rules.specs.ties.Places.{all_triples, place_of, triple_at}
-use Rattle.chess_rules.proofs.listing_moves.Members.{from_range}
-use Rattle.chess_rules.proofs.listing_moves.Places.{place_of_triple, triples_numbered}
-use Rattle.chess_rules.proofs.listing_moves.TripleNumbers.{in_triples, made_is_triple}
+use Rattle.chess_rules.proofs.Members.{from_range}
+use Rattle.chess_rules.proofs.Places.{place_of_triple, triples_numbered}
+use Rattle.chess_rules.proofs.TripleNumbers.{in_triples, made_is_triple}
 
 module _ (rule : RuleSet) (contest : Contest) (fit : IsContest contest) where
   -- its number of half-moves

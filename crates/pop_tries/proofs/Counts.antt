@@ -1,5 +1,5 @@
 -- Refutations counted in parts: forcing replies, and the others.
-use Rattle.chess_rules.proofs.listing_moves.Between.{after_cut}
+use Rattle.chess_rules.proofs.Between.{after_cut}
 use Rattle.chess_rules.specs.Legal.{is_legal}
 use Rattle.chess_rules.specs.ties.Places.{moves_after, moves_between, place_of}
 use Rattle.pop_battle.proofs.Boards.{after_start}

@@ -6,7 +6,7 @@ use Rattle.pop_walk.proofs.Trees.{flat-same}
 use Rattle.chess_core.specs.Undo.{Undo}
 use Rattle.std.specs.Prelude.{None, Option}
 use Rattle.std.proofs.lemmas.List.FromFn.{length-map-range_with_len}
-use Rattle.chess_rules.proofs.listing_moves.Places.{triples_numbered}
+use Rattle.chess_rules.proofs.Places.{triples_numbered}
 use Rattle.chess_rules.specs.ties.Places.{all_triples, triple_at}
 use Rattle.chess_rules.specs.ties.Places.{moves_after}
 unfoldable use Rattle.chess_rules.specs.ties.Places.{met_after}

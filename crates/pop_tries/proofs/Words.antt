@@ -6,7 +6,7 @@ pub use Rattle.pop_tries.specs.Tries.{Below, Passing, below_reply, but, check, f
 unfoldable pub use Rattle.pop_tries.specs.Tries.{below_first}
 pub use Rattle.pop_tries.specs.Events.{BareTryEvent, attempt, attempt_events, below, chess_passing, events_of_tries, key, key_events, key_moves, key_total, keys, no_tries, play_events, set_event, shown_below, tries, try_moves, try_total}
 unfoldable pub use Rattle.pop_tries.specs.Events.{try_events}
-pub use Rattle.chess_rules.proofs.listing_moves.Members.{pairs_later}
+pub use Rattle.chess_rules.proofs.Members.{pairs_later}
 pub use Rattle.chess_rules.proofs.LegalMoves.{may_be_made}
 pub use Rattle.std.proofs.lemmas.List.Elements.{filter_agree}
 pub use Rattle.std.proofs.lemmas.List.Elements.{Contains-append_left}

@@ -118,7 +118,7 @@ fn is_over(stage: TriesStage) -> bool
 
 /// Takes the step that the stage is due for, which may emit an event.
 #[tactic(auto, unfolding(crate::specs::ties::Searching::HoldsAt, crate::specs::ties::Searching::left_of, crate::specs::ties::Searching::rank))]
-fn take_step<R: Rules, const N: usize>(
+fn next_step<R: Rules, const N: usize>(
     task: &Task,
     stage: TriesStage,
     desk: &mut Desk<R, N>,
@@ -166,7 +166,7 @@ fn next_event<R: Rules, const N: usize>(
         × (shown ≡ try_event_of R.rule task.now.problem bare)) }
 {
     while !is_over(*stage) {
-        let step = take_step::<R, N>(task, *stage, desk);
+        let step = next_step::<R, N>(task, *stage, desk);
         *stage = step.stage;
         if step.event.is_some() {
             return step.event;

@@ -260,7 +260,7 @@ pub fn find_threat<R: Rules, const N: usize>(
 }
 
 /// Returns whether the move at `place` is legal in the board's position and wins within `length` half-moves.
-#[tactic(auto, using(chess_rules::proofs::listing_moves::Between::stands_on, chess_rules::proofs::listing_moves::Between::stands_off))]
+#[tactic(auto, using(chess_rules::proofs::Between::stands_on, chess_rules::proofs::Between::stands_off))]
 fn works<R: Rules, const N: usize>(
     contest: Contest,
     length: usize,

@@ -6,8 +6,8 @@ use Rattle.chess_core.specs.declared.man.Colour.{Colour}
 use Rattle.chess_core.specs.declared.man.Colour.TheVariants.{Black, White}
 use Rattle.chess_core.specs.declared.man.Kind.TheVariants.{King}
 use Rattle.chess_attacks.proofs.rays.OnSquares.{on_board}
-use Rattle.chess_rules.proofs.legality.Blocking.{king_is, man_there}
-use Rattle.chess_rules.proofs.legality.StayingInCheck.{king_there}
+use Rattle.chess_rules.proofs.Blocking.{king_is, man_there}
+use Rattle.chess_rules.proofs.StayingInCheck.{king_there}
 use Rattle.chess_reach.proofs.KingMoves.{king_goes_along, king_stays_behind, waiting_king_stays}
 use Rattle.chess_reach.proofs.Lines.{turn_after}
 use Rattle.chess_reach.specs.Lines.{holds_king, reaches_goal}

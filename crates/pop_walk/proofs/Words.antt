@@ -13,7 +13,7 @@ pub use Rattle.std.proofs.lemmas.List.Sums.{fails_before_first, passes_at_first,
 pub use Rattle.std.specs.List.{AllPairs, Contains, flat_map, position_or_len}
 pub use Rattle.arrayvec.specs.ArrayVec.{ArrayVec, array_vec_len}
 unfoldable pub use Rattle.chess_core.specs.WellFormed.{is_en_passant_square_right}
-pub use Rattle.chess_rules.proofs.listing_moves.Members.{first_in, from_filter, from_flat_map, in_cases, in_filter, in_flat_map, in_map, later_in, none_in_nil, pairs_append, pairs_flat_map, pairs_front, pairs_map, pairs_nil, pairs_of, pairs_weaker}
+pub use Rattle.chess_rules.proofs.Members.{first_in, from_filter, from_flat_map, in_cases, in_filter, in_flat_map, in_map, later_in, none_in_nil, pairs_append, pairs_flat_map, pairs_front, pairs_map, pairs_nil, pairs_of, pairs_weaker}
 pub use Rattle.chess_rules.proofs.theorems.Moves.{Precedes, moves_are_the_legal_moves, moves_differ, moves_in_order, never_precedes_itself}
 pub use Rattle.chess_mates.specs.ties.MatingPlaces.{IsNextMate}
 pub use Rattle.chess_flights.specs.ties.Mates.{allows_mate}

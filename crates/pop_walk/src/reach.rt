@@ -56,7 +56,7 @@ fn ends_off<R: Rules>(squares: Squares, by: Move, board: &Board) -> bool
 
 /// Returns the part of `squares` on which lines can still end after a legal move of help play, with `left`
 /// half-moves left after it.
-#[tactic(auto, using(chess_rules::proofs::LegalMoves::may_be_made, chess_rules::proofs::making_moves::Stays::after_well_formed, crate::proofs::OutOfReach::ends_after))]
+#[tactic(auto, using(chess_rules::proofs::LegalMoves::may_be_made, chess_rules::proofs::Stays::after_well_formed, crate::proofs::OutOfReach::ends_after))]
 fn squares_after<R: Rules>(
     goal: Goal,
     left: usize,

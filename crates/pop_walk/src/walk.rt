@@ -220,7 +220,7 @@ fn opened_after(opened: u64, tried: usize, tested: Option<Battle>) -> u64
 /// Plays a legal move, after which `left` half-moves are left, and opens a frame for the position after
 /// it if the walk follows the move; otherwise takes it back. Returns whether its path is emitted. Inlined
 /// by hand: it is called for each move, and the compiler wouldn't inline it.
-#[tactic(auto, using(chess_rules::proofs::LegalMoves::may_be_made, chess_rules::proofs::making_moves::Stays::after_well_formed), unfolding(crate::specs::ties::Walk::is_followed, crate::specs::ties::Walk::walk_length))]
+#[tactic(auto, using(chess_rules::proofs::LegalMoves::may_be_made, chess_rules::proofs::Stays::after_well_formed), unfolding(crate::specs::ties::Walk::is_followed, crate::specs::ties::Walk::walk_length))]
 #[inline(always)]
 pub(crate) fn enter<R: Rules, const N: usize>(
     mode: Mode,

@@ -1,4 +1,4 @@
 //! The tests.
 mod adapters;
 mod agreements;
-mod places;
+mod spans;

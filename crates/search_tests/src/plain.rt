@@ -432,7 +432,7 @@ pub(crate) fn first_diagram(problem: &Problem, in_set: bool) -> Diagram {
     diagram
 }
 
-/// Adds the text of a phase.
+/// Searches a phase and adds the text of its events, unless its diagram isn't well formed.
 fn add_phase<R: Rules>(reported: &mut PhaseText, problem: &Problem, in_set: bool) {
     let diagram = first_diagram(problem, in_set);
     if !diagram.is_well_formed() {

@@ -42,7 +42,7 @@ struct Given {
     given_after: u64,
 }
 
-/// Adds the text of an event.
+/// Adds what `print_event` writes for an event, as far as it fits.
 pub(crate) fn add_event(event: &Event, text: &mut ArrayVec<u8, 4096>) {
     let mut sink = TrialSink::<256>::new(256, None);
     let _reported = print_event(&mut sink, event);

@@ -8,7 +8,7 @@ use Rattle.chess_reach.proofs.Picture.{picture}
 use Rattle.chess_reach.specs.Lines.{IsLegalLine, line_end, mover, reaches_goal}
 use Rattle.chess_reach.specs.Plans.{saved_moves, standing_checks}
 use Rattle.chess_rules.proofs.LegalMoves.{may_be_made}
-use Rattle.chess_rules.proofs.making_moves.Pseudo.{made}
+use Rattle.chess_rules.proofs.Pseudo.{made}
 use Rattle.pop_stipulation.specs.declared.stipulation.Goal.{Goal}
 
 -- There is a plan in n moves of colour c and m of the other side, whose king ends on k; a knight or pawn that has made no move checks only if

@@ -97,6 +97,18 @@ pub record Captures (rb : Bool) (prey n : ℕ) (p : Position) (c : Colour) (ends
   pub moves : 0 < n → (s : ℕ) × (s < 64) × (is_blocker p.men (other c) s ≡ true)
       × ((ends s).taken ≡ true) × (n ≤ (ends s).moves)
 
+-- the quest has the blockers and the king of the position, and its guards aren't listed yet
+pub record IsBegun (p : Position) (q : Quest) (king : Guard) (theirs : ℕ) : Type 0 where
+  pub size : length p.men ≡ 64
+  pub few : theirs < 9
+  pub blocks : AreBlocks q.ending.are_reborn (may_promote p) p.men (other q.colour) theirs q.blockable
+  pub usual : IsUsual (may_promote p)
+  pub kind : king.kind ≡ King
+  pub stands : king_square p.men (other q.colour) ≡ Some king.from
+  pub small : king.from < 64
+  pub way : IsChain q.ending.are_reborn (2 ^ 64 - 1) (record { colour = other q.colour; kind = King })
+      king.from theirs king.chain
+
 -- the quest has the guards, the blockers and the king of the position
 pub record IsQuestOf (prey : ℕ) (p : Position) (q : Quest) (king : Guard) (ours theirs : ℕ) : Type 0 where
   pub size : length p.men ≡ 64

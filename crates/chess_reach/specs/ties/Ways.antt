@@ -29,18 +29,24 @@ abbrev pub by_side : Colour → ℕ → ℕ → ℕ
 by_side White w b = w
 by_side Black w b = b
 
--- a man that is now of kind k can be of kind j: a pawn as itself or promoted, but not to nightrider, and
--- another man as itself
+-- a promotion to this kind isn't followed: neither a knight's leaps nor a queen's lines, which are followed of
+-- promoted pawns, reach all that such a man reaches
+abbrev pub is_unfollowed : Kind → Bool
+is_unfollowed Nightrider = true
+is_unfollowed _ = false
+
+-- a man that is now of kind k can be of kind j: a pawn as itself or promoted, but not to king nor to a kind
+-- that isn't followed, and another man as itself
 pub record CanBe (k j : Kind) : Type 0 where
   pub piece : same_kind k Pawn ≡ false → j ≡ k
-  pub rider : same_kind k Pawn ≡ true → j ≢ Nightrider
+  pub followed : same_kind k Pawn ≡ true → is_unfollowed j ≡ false
   pub king : same_kind k Pawn ≡ true → j ≢ King
 
--- pawns promote neither to king nor to nightrider, and don't stay pawns
+-- pawns promote neither to king nor to a kind that isn't followed, and don't stay pawns
 pub record IsUsual (allowed : Kind → Bool) : Type 0 where
   pub king : allowed King ≡ false
   pub pawn : allowed Pawn ≡ false
-  pub rider : allowed Nightrider ≡ false
+  pub followed : (k : Kind) → is_unfollowed k ≡ true → allowed k ≡ false
 
 -- pawns capture on squares of the bitboard `prey` alone
 abbrev pub TakesOn : (ℕ → Bool) → ℕ → Type 0

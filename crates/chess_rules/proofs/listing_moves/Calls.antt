@@ -1,6 +1,6 @@
 -- Successive calls of `next` on one position.
 use Rattle.chess_rules.proofs.Chess.{List, MatchOption, Move, Option, Position, RuleSet, [], arith, drop, drop-drop, moves, moves_after, place_of, refl, slice_get, suc, zero, ℕ, ◌+◌, ◌∷◌, ◌≡◌}
-use Rattle.chess_rules.proofs.listing_moves.Places.{met_after-end}
+use Rattle.chess_rules.proofs.Places.{met_after-end}
 
 get_first : (l : List Move) (n : ℕ) → slice_get l n ≡ slice_get (drop n l) 0
 get_first [] zero = refl

@@ -3,9 +3,9 @@ use Rattle.std.proofs.lemmas.List.Sums.{count_by-le-length, length-filter}
 use Rattle.std.specs.Int.Count.{ones_step}
 use Rattle.std.specs.Prelude.{count_ones}
 use Rattle.chess_rules.proofs.Chess.{AreCandidates, AreLegal, Bool, NoneMeet, HasNoMoveFrom, Move, None, Pawn, Position, RuleSet, all_triples, ap, arith, bit_at, bit_at-lt, cases_Bool, cases_eq, cases_lt, differs, false, from_bool, inl, inr, is_legal, is_legal-idle, is_man, length, length-append, length-take, man_on, moves_between, ones-le, meets_on, per_arrival, per_origin, pow_mono, promotion_at, refl, rules, shr-shr, shr_below, suc, sym, triple_at, true, zero, ℕ, ◌%◌, ◌&&◌, ◌*◌, ◌+◌, ◌-◌, ◌/◌, ◌<◌, ◌==◌, ◌^◌, ◌∙◌, ◌≡◌, ◌≤◌, met_between}
-use Rattle.chess_rules.proofs.listing_moves.Between.{between-here, between-none, between-over, between-past, between-skip, between_cut}
-use Rattle.chess_rules.proofs.listing_moves.Targeting.{first_none, arrival_from, named_by, no_promotion_here, some_named}
-use Rattle.chess_rules.proofs.listing_moves.Walks.{IsWalked, none-from, none-plain, none-to, triple_of, walk_before}
+use Rattle.chess_rules.proofs.Between.{between-here, between-none, between-over, between-past, between-skip, between_cut}
+use Rattle.chess_rules.proofs.Targeting.{first_none, arrival_from, named_by, no_promotion_here, some_named}
+use Rattle.chess_rules.proofs.Walks.{IsWalked, none-from, none-plain, none-to, triple_of, walk_before}
 use Rattle.chess_attacks.proofs.Bits.{off_zero}
 use Rattle.chess_attacks.proofs.Basics.{nat_le}
 use Rattle.chess_attacks.specs.ties.Taking.{IsPopped}

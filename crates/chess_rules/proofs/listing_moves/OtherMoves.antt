@@ -1,8 +1,8 @@
 -- Legal moves of men other than the king.
 use Rattle.chess_rules.proofs.Chess.{AreCandidates, AreOrigins, IsAimed, IsWellFormed, King, Move, Position, RuleSet, and_left, and_right, arith, bit_and, bit_at, bit_not, cases_Bool, filter, is_legal, is_nil, is_of_others, is_legal_and, moves, not, rules, squares_not, squares_of, true, w64, word_has, ℕ, ◌==◌, ◌≡◌, Option, MatchOption, List, [], ◌∷◌, is_some, met_after, None, Some}
-use Rattle.chess_rules.proofs.listing_moves.Places.{moves_after-start}
-use Rattle.chess_rules.proofs.listing_moves.Filtering.{kept_after}
-use Rattle.chess_rules.proofs.listing_moves.Walks.{off_second}
+use Rattle.chess_rules.proofs.Places.{moves_after-start}
+use Rattle.chess_rules.proofs.Filtering.{kept_after}
+use Rattle.chess_rules.proofs.Walks.{off_second}
 use Rattle.chess_attacks.proofs.rays.OnSquares.{on_board}
 
 module _ (rule : RuleSet) (p : Position) where

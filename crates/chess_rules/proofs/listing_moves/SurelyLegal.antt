@@ -1,9 +1,9 @@
 -- Moves that are legal without a test of each.
 use Rattle.chess_rules.proofs.Chess.{AreCandidates, AreLegal, Bool, IsAimed, IsWellFormed, King, Man, Move, None, Pawn, Position, RuleSet, Some, and_from, and_left, arith, bit_and, bit_at, bit_or, cannot_expose, captures_are_reborn, eqb-true, false, if◌then◌else◌, is_legal, is_plain, is_promoting, is_some, is_square, is_untested, joined, last_rank, man_on, may_expose, may_be_hurdle, or_parts, rank_of, refl, rules, same_kind, squares_same, sym, true, word, word_empty, word_has, ℕ, ◌&&◌, ◌<◌, ◌==◌, ◌∙◌, ◌≡◌}
-use Rattle.chess_rules.proofs.legality.Blocking.{cannot_expose_own}
-use Rattle.chess_rules.proofs.listing_moves.Arrivals.{aimed_plain, goes_on, may_go_aimed}
-use Rattle.chess_rules.proofs.listing_moves.Targeting.{no_pawn_arrives}
-use Rattle.chess_rules.proofs.listing_moves.Walks.{off_second}
+use Rattle.chess_rules.proofs.Blocking.{cannot_expose_own}
+use Rattle.chess_rules.proofs.Arrivals.{aimed_plain, goes_on, may_go_aimed}
+use Rattle.chess_rules.proofs.Targeting.{no_pawn_arrives}
+use Rattle.chess_rules.proofs.Walks.{off_second}
 use Rattle.chess_attacks.proofs.Bits.{off_zero}
 
 -- the king's fairy lines are among the squares from which a move may expose it

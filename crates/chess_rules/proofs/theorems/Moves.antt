@@ -3,9 +3,9 @@
 use Rattle.chess_rules.proofs.Chess.{AllPairs, AllPairs-filter, Bool, Contains, IsWellFormed, Move, Position, RuleSet, Some, and_from, and_parts, arith, false, false_from_ne_true, in_check, is_legal, is_mate, is_nil, is_stalemate, moves, nat_lt, not-true, not_from_false, place_of, precedes, promotion_precedes, promotions, rules, sym, triples, true, true≢false, ℕ, ◌&&◌, ◌<◌, ◌==◌, ◌||◌, ◌↔◌, ◌∙◌, ◌≡◌, ◌≢◌, ◌⊎◌}
 use Rattle.std.proofs.lemmas.Bool.Decides.{nat_tests}
 use Rattle.chess_rules.proofs.LegalMoves.{may_be_made}
-use Rattle.chess_rules.proofs.listing_moves.Places.{place_of_triple}
-use Rattle.chess_rules.proofs.listing_moves.Members.{from_filter, in_filter, pairs_weaker}
-use Rattle.chess_rules.proofs.listing_moves.TripleNumbers.{from_triples, in_triples, made_is_triple, numbered, triples_by_number, triples_rise, nil_where_nothing, nothing_in}
+use Rattle.chess_rules.proofs.Places.{place_of_triple}
+use Rattle.chess_rules.proofs.Members.{from_filter, in_filter, pairs_weaker}
+use Rattle.chess_rules.proofs.TripleNumbers.{from_triples, in_triples, made_is_triple, numbered, triples_by_number, triples_rise, nil_where_nothing, nothing_in}
 
 -- The move's origin and arrival are squares of the board, and its promotion is one of `promotions`.
 abbrev pub IsTriple : Move → Type 0

@@ -33,7 +33,7 @@ pub(crate) fn has_fairy_lines(kind: Kind) -> bool
 }
 
 // Returns whether the colour has a grasshopper or a nightrider.
-#[tactic(auto, using(crate::proofs::legality::Blocking::some_hopper, crate::proofs::legality::Blocking::some_nightrider))]
+#[tactic(auto, using(crate::proofs::Blocking::some_hopper, crate::proofs::Blocking::some_nightrider))]
 pub(crate) fn has_fairy(board: &Board, colour: Colour) -> bool
     ensures { result ≡ has_fairy board.now.men colour }
 {
@@ -44,7 +44,7 @@ pub(crate) fn has_fairy(board: &Board, colour: Colour) -> bool
 /// with a grasshopper, nightrider's lines with a nightrider. Usually the enemy has no fairy man: that
 /// test comes first.
 #[inline(always)]
-#[tactic(auto, using(crate::proofs::legality::FairyLines::no_fairy_line))]
+#[tactic(auto, using(crate::proofs::FairyLines::no_fairy_line))]
 pub fn fairy_lines(board: &Board, colour: Colour) -> Squares
     ensures { result ≡ word (may_be_hurdle board.now.men colour) }
 {
@@ -255,8 +255,9 @@ pub fn safety_from(
     }
 }
 
-/// Returns the safety of the colour's king.
-#[tactic(auto, using(crate::proofs::legality::Blocking::checkers_none, crate::proofs::legality::Blocking::blocker_squares_none))]
+/// Returns which enemy men reach the colour's king, and from which squares a move may expose it; no squares without
+/// a king.
+#[tactic(auto, using(crate::proofs::Blocking::checkers_none, crate::proofs::Blocking::blocker_squares_none))]
 #[inline(always)]
 pub fn king_safety(board: &Board, colour: Colour) -> KingSafety
     ensures checkers { result.checkers ≡ word (is_checker board.now.men colour) }
@@ -297,7 +298,7 @@ pub(crate) fn is_plain<R: Rules>(board: &Board, man: Man, m: Move) -> bool
 // king, or block a nightrider's line to it. `squares` are the squares from which a move may expose the
 // king.
 #[inline(always)]
-#[tactic(auto, using(crate::proofs::legality::Blocking::off_blockers, crate::proofs::legality::Blocking::between_is))]
+#[tactic(auto, using(crate::proofs::Blocking::off_blockers, crate::proofs::Blocking::between_is))]
 fn may_be_hurdle(board: &Board, colour: Colour, squares: Squares, square: Square) -> bool
     requires { squares ≡ word (may_expose board.now.men colour) }
     ensures { result ≡ may_be_hurdle board.now.men colour square }

@@ -26,7 +26,7 @@ fn are_empty(board: &Board, low: u8, high: u8) -> bool
 // stands between them, the rook isn't paralysed (own), and the king is in check neither on its square
 // nor on the square that it crosses. For the last test the king is put on that square for a moment; the
 // board is unchanged afterwards.
-#[tactic(auto, using(crate::proofs::making_moves::Castles::castling), unfolding(crate::specs::Legal::can_castle))]
+#[tactic(auto, using(crate::proofs::Castles::castling), unfolding(crate::specs::Legal::can_castle))]
 pub(crate) fn can_castle<R: Rules>(board: &mut Board, man: Man, m: Move) -> bool
     requires here { man_on board.old.men m.from ≡ Some man }
     requires well_formed { IsWellFormed board.old }

@@ -95,7 +95,7 @@ fn paralysing_squares<R: Rules>(man: Man) -> Squares
 
 // Returns whether the move certainly leaves its own king in check: it isn't the king's and misses
 // `evasion_squares`. `false` says nothing.
-#[tactic(auto, using(crate::proofs::legality::StayingInCheck::check_unmet))]
+#[tactic(auto, using(crate::proofs::StayingInCheck::check_unmet))]
 fn leaves_check<R: Rules>(board: &Board, evasion_squares: Squares, m: Move) -> bool
     requires well_formed { IsWellFormed board.now }
     requires pseudo { is_pseudo_legal R.rule board.now m ≡ true }
@@ -133,7 +133,7 @@ pub fn rebirth_captures<R: Rules>(board: &Board) -> Squares
 // Returns a superset of the squares to which the man on `from` could go, on some board, without leaving its
 // king in check; all squares for a king or if there is no check. `evasion_squares` are the squares where
 // another man may parry.
-#[tactic(auto, using(crate::proofs::legality::EvasionTargets::evasions_from_all, crate::proofs::legality::EvasionTargets::evasions_from_some, crate::proofs::listing_moves::Targeting::nobody_moves))]
+#[tactic(auto, using(crate::proofs::EvasionTargets::evasions_from_all, crate::proofs::EvasionTargets::evasions_from_some, crate::proofs::Targeting::nobody_moves))]
 #[inline(always)]
 pub(crate) fn evasions_from<R: Rules>(
     board: &Board,
@@ -164,7 +164,7 @@ pub(crate) fn evasions_from<R: Rules>(
 // Returns whether the mover isn't in check after the move. `squares` are the squares from which a move
 // may expose its king, `evasion_squares` the squares where a move may parry a check. The board is
 // unchanged.
-#[tactic(auto, using(crate::proofs::legality::Blocking::cannot_expose_own))]
+#[tactic(auto, using(crate::proofs::Blocking::cannot_expose_own))]
 #[inline(always)]
 pub(crate) fn is_safe<R: Rules>(
     board: &mut Board,

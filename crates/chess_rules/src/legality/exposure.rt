@@ -41,7 +41,7 @@ pub fn is_simple<R: Rules>(man: Man, m: Move, captures: bool) -> bool
 }
 
 // Returns the arrival square if the man that arrives there is of this kind; otherwise no square.
-#[tactic(auto, using(crate::proofs::legality::Exposing::arrives_as, crate::proofs::legality::Exposing::arrives_otherwise))]
+#[tactic(auto, using(crate::proofs::Exposing::arrives_as, crate::proofs::Exposing::arrives_otherwise))]
 fn arrival_as(man: Man, m: Move, kind: Kind) -> Squares
     ensures { result ≡ word (is_arriving_as man m kind) }
 {
@@ -80,7 +80,7 @@ fn is_attacked_by_like_after(
 }
 
 // Returns whether the enemy man on the square is paralysed after the move.
-#[tactic(auto, using(crate::proofs::legality::Exposing::faced_king, crate::proofs::legality::Exposing::none_paralysed, crate::proofs::legality::Exposing::paralysed_by), unfolding(chess_attacks::specs::Attacks::is_paralysed))]
+#[tactic(auto, using(crate::proofs::Exposing::faced_king, crate::proofs::Exposing::none_paralysed, crate::proofs::Exposing::paralysed_by), unfolding(chess_attacks::specs::Attacks::is_paralysed))]
 fn is_paralysed_after<R: Rules>(
     board: &Board,
     occupancy: Occupancy,

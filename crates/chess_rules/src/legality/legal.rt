@@ -60,7 +60,7 @@ fn can_king_go<R: Rules>(board: &mut Board, man: Man, m: &Move) -> bool
 // Returns whether the man may go to the arrival, which is one of its arrival squares: only castling
 // needs more tests. The board is unchanged.
 #[inline(always)]
-#[tactic(auto, using(crate::proofs::listing_moves::Arrivals::goes_on))]
+#[tactic(auto, using(crate::proofs::Arrivals::goes_on))]
 fn can_go<R: Rules>(board: &mut Board, man: Man, m: &Move) -> bool
     requires here { man_on board.old.men m.now.from ≡ Some man }
     requires may_arrive { may_arrive board.old man m.now.from m.now.to ≡ true }
@@ -79,7 +79,7 @@ fn can_go<R: Rules>(board: &mut Board, man: Man, m: &Move) -> bool
 /// move must go to one of the man's `arrivals`; promotion and castling remain to be tested. The board is
 /// unchanged.
 #[inline(always)]
-#[tactic(auto, using(crate::proofs::listing_moves::Arrivals::aimed_plain, crate::proofs::listing_moves::Arrivals::aimed_promotion, crate::proofs::listing_moves::Arrivals::may_go_aimed))]
+#[tactic(auto, using(crate::proofs::Arrivals::aimed_plain, crate::proofs::Arrivals::aimed_promotion, crate::proofs::Arrivals::may_go_aimed))]
 pub fn is_pseudo_legal<R: Rules>(board: &mut Board, m: &Move) -> bool
     requires well_formed { IsWellFormed board.old }
     requires aimed { IsAimed R.rule board.old m.now }

@@ -19,7 +19,7 @@ use chess_core::{Board, Colour, Kind, Man, Square, Squares};
 
 /// Returns the squares one and two ahead of a pawn on `from`, or two files to either side of a king;
 /// none for other men.
-#[tactic(auto, using(crate::proofs::listing_moves::Targeting::step_words))]
+#[tactic(auto, using(crate::proofs::Targeting::step_words))]
 pub fn steps_to(man: Man, from: Square) -> Squares
     ensures { result ≡ word (steps_to man from) }
 {
@@ -34,7 +34,7 @@ pub fn steps_to(man: Man, from: Square) -> Squares
 
 /// Returns a superset of the squares to which the man on `from` could move on some board, castling
 /// included.
-#[tactic(auto, using(crate::proofs::listing_moves::OpenBoard::king_targets, crate::proofs::listing_moves::OpenBoard::pawn_targets, crate::proofs::listing_moves::OpenBoard::piece_targets))]
+#[tactic(auto, using(crate::proofs::OpenBoard::king_targets, crate::proofs::OpenBoard::pawn_targets, crate::proofs::OpenBoard::piece_targets))]
 pub fn unblocked_targets(man: Man, from: Square) -> Squares
     ensures { (p : Position) (t : ℕ) → t < 64 → may_arrive p man from t ≡ true
         → (bit_at result t == 1) ≡ true }
@@ -76,7 +76,7 @@ fn castling_squares(board: &Board, man: Man, from: Square) -> Squares
 
 // Returns the squares to which the man on `from` may go, whoever stands there. Castling meets only some
 // of its tests.
-#[tactic(auto, using(crate::proofs::listing_moves::Arrivals::other_ways, crate::proofs::listing_moves::Arrivals::pawn_ways))]
+#[tactic(auto, using(crate::proofs::Arrivals::other_ways, crate::proofs::Arrivals::pawn_ways))]
 fn arrivals_of(board: &Board, man: Man, from: Square) -> Squares
     ensures { result ≡ word (may_arrive board.now man from) }
 {
@@ -96,7 +96,7 @@ fn free_squares(board: &Board, colour: Colour) -> Squares
 
 /// Returns the squares where the man on `from` may arrive; none if it is paralysed or not of the side to
 /// move. Castling meets only some of its tests.
-#[tactic(auto, using(crate::proofs::listing_moves::Arrivals::arrivals_nobody, crate::proofs::listing_moves::Arrivals::arrivals_other, crate::proofs::listing_moves::Arrivals::arrivals_paralysed))]
+#[tactic(auto, using(crate::proofs::Arrivals::arrivals_nobody, crate::proofs::Arrivals::arrivals_other, crate::proofs::Arrivals::arrivals_paralysed))]
 #[inline(always)]
 pub fn arrivals<R: Rules>(board: &Board, from: Square) -> Squares
     ensures { result ≡ word (is_arrival R.rule board.now from) }

@@ -109,7 +109,7 @@ impl<R: Rules, T: MoveTest> Cursor<R, T> {
     /// Returns the next move between the cursor and `end` that meets the test, and moves the cursor to it. If
     /// there is none it returns `None` and the cursor stays. The cursor must belong to the board's position.
     /// The board is unchanged.
-    #[tactic(auto, using(crate::proofs::listing_moves::Between::until))]
+    #[tactic(auto, using(crate::proofs::Between::until))]
     pub fn next_until(&mut self, end: MovePlace, board: &mut Board) -> Option<Move>
         requires well_formed { IsWellFormed board.old }
         requires place { IsCursorIn T.fits T.test R.rule board.old self.old }

@@ -75,7 +75,7 @@ impl<R: Rules> Cursor<R, LegalityMasks> {
     /// that is for speed only: no clause says that a filter removes any move. If it removes all moves after
     /// the cursor, returns their number, and moves the cursor to the end; all of them fail the test. Cursor
     /// and filter must belong to the board's position. The board is unchanged.
-    #[tactic(auto, using(crate::proofs::listing_moves::Filtering::next_kept))]
+    #[tactic(auto, using(crate::proofs::Filtering::next_kept))]
     pub fn next_kept<S: SquareFilter>(
         &mut self,
         square_filter: &mut S,
@@ -153,7 +153,7 @@ pub(crate) fn own_origins<R: Rules>(board: &Board) -> Squares
 }
 
 // Returns a superset of the squares to which the man on `from` has a legal move.
-#[tactic(auto, using(crate::proofs::listing_moves::Walks::legal_candidates))]
+#[tactic(auto, using(crate::proofs::Walks::legal_candidates))]
 #[inline(always)]
 pub(crate) fn candidates<R: Rules>(board: &Board, evasion_squares: Squares, from: Square) -> Squares
     requires well_formed { IsWellFormed board.now }

@@ -67,7 +67,7 @@ impl MovePlace {
 
     /// Returns the last triple before the place, if it is a legal move in the board's position.
     /// Tests only this move. The board is unchanged.
-    #[tactic(auto, using(crate::proofs::listing_moves::Between::standing))]
+    #[tactic(auto, using(crate::proofs::Between::standing))]
     pub fn legal_move<R: Rules>(self, board: &mut Board) -> Option<Move>
         requires { IsWellFormed board.old }
         ensures rest { MatchOption result (moves_between R.rule board.old (self - 1) self ≡ [])

@@ -117,7 +117,7 @@ fn next_of_pawn<R: Rules, S: MoveTest>(
 // one triple. Triples are counted from the first with this origin. The board is unchanged. Inlined: a call
 // costs more than it saves.
 #[inline(always)]
-#[tactic(auto, using(crate::proofs::listing_moves::Walks::plain_aimed, crate::proofs::Chess::cases_eq, crate::proofs::Chess::cases_lt), unfolding(crate::specs::ties::Places::triple_at))]
+#[tactic(auto, using(crate::proofs::Walks::plain_aimed, crate::proofs::Chess::cases_eq, crate::proofs::Chess::cases_lt), unfolding(crate::specs::ties::Places::triple_at))]
 fn next_of_piece<R: Rules, S: MoveTest>(
     board: &mut Board,
     move_test: &S,

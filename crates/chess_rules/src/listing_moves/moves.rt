@@ -64,7 +64,7 @@ impl<R: Rules> Moves<R> {
 }
 
 /// Returns whether the side to move has a legal move. The board is unchanged.
-#[tactic(auto, using(crate::proofs::listing_moves::Places::any_move))]
+#[tactic(auto, using(crate::proofs::Places::any_move))]
 pub fn has_legal_move<R: Rules>(board: &mut Board) -> bool
     requires { IsWellFormed board.old }
     ensures answer { result ≡ not (is_nil (moves R.rule board.old)) }

@@ -91,7 +91,7 @@ fn known_candidates<R: Rules, S: SquareFilter>(
 }
 
 // Returns which of `squares`, the candidate squares of the man on `from`, the filter keeps.
-#[tactic(auto, using(crate::proofs::listing_moves::Filtering::wanted_candidates))]
+#[tactic(auto, using(crate::proofs::Filtering::wanted_candidates))]
 fn kept_candidates<R: Rules, S: SquareFilter>(
     board: &Board,
     square_filter: &mut S,

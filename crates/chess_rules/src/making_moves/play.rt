@@ -90,7 +90,7 @@ pub(crate) fn remove_at(board: &mut Board, square: Option<Square>)
 // Carries out the move on the board, rebirth apart: moves the man, removes the captured man, and in
 // castling moves the rook.
 #[inline(always)]
-#[tactic(auto, using(crate::proofs::making_moves::Plays::capture_clears), unfolding(crate::specs::Play::moved_men))]
+#[tactic(auto, using(crate::proofs::Plays::capture_clears), unfolding(crate::specs::Play::moved_men))]
 fn move_men(board: &mut Board, man: Man, m: Move, captured: Option<Square>)
     requires moves { CanMove board.old man m }
     requires captured { captured ≡ capture_square board.old man m }
@@ -126,14 +126,14 @@ fn rebirth(colour: Colour, kind: Kind, square: Square) -> Option<Square>
     let light = (square.file() + square.rank()) % 2 == 1;
     match (colour, kind) {
         (_, Kind::King) => None,
-        (Colour::White, Kind::Queen) => Some(Square::numbered(3)),
-        (Colour::Black, Kind::Queen) => Some(Square::numbered(59)),
-        (Colour::White, Kind::Rook) => Some(Square::numbered(if light { 7 } else { 0 })),
-        (Colour::Black, Kind::Rook) => Some(Square::numbered(if light { 56 } else { 63 })),
-        (Colour::White, Kind::Bishop) => Some(Square::numbered(if light { 5 } else { 2 })),
-        (Colour::Black, Kind::Bishop) => Some(Square::numbered(if light { 58 } else { 61 })),
-        (Colour::White, Kind::Knight) => Some(Square::numbered(if light { 1 } else { 6 })),
-        (Colour::Black, Kind::Knight) => Some(Square::numbered(if light { 62 } else { 57 })),
+        (Colour::White, Kind::Queen) => Some(Square::D1),
+        (Colour::Black, Kind::Queen) => Some(Square::D8),
+        (Colour::White, Kind::Rook) => Some(if light { Square::H1 } else { Square::A1 }),
+        (Colour::Black, Kind::Rook) => Some(if light { Square::A8 } else { Square::H8 }),
+        (Colour::White, Kind::Bishop) => Some(if light { Square::F1 } else { Square::C1 }),
+        (Colour::Black, Kind::Bishop) => Some(if light { Square::C8 } else { Square::F8 }),
+        (Colour::White, Kind::Knight) => Some(if light { Square::B1 } else { Square::G1 }),
+        (Colour::Black, Kind::Knight) => Some(if light { Square::G8 } else { Square::B8 }),
         (Colour::White, Kind::Pawn) => Square::new(square.file(), 2),
         (Colour::Black, Kind::Pawn) => Square::new(square.file(), 7),
         (Colour::White, _) => Square::new(square.file(), 8),

@@ -75,7 +75,7 @@ fn go_back(board: &mut Board, man: Man, m: &Move, undo: &Undo)
 }
 
 // Removes the reborn man, if there is one.
-fn take_reborn_off(board: &mut Board, undo: &Undo)
+fn lift_reborn(board: &mut Board, undo: &Undo)
     requires { (s : ℕ) → undo.now.rebirth ≡ Some s → IsSome (man_on board.old.men s) }
     ensures { board.new ≡ record board.old { men = without_at board.old.men undo.now.rebirth } }
 {
@@ -83,11 +83,11 @@ fn take_reborn_off(board: &mut Board, undo: &Undo)
 }
 
 // Takes back a move: first removes the reborn man, then returns the men that moved and the captured man.
-fn take_back<R: Rules>(board: &mut Board, m: Move, undo: Undo)
+fn undo_move<R: Rules>(board: &mut Board, m: Move, undo: Undo)
     requires { WasPlayed R.rule board.old m undo }
     ensures { RestoresPosition R.rule board.old m undo board.new }
 {
-    take_reborn_off(board, &undo);
+    lift_reborn(board, &undo);
     m.to.show_below_64();
     if let Some(arrived) = board.man_at(m.to) {
         go_back(board, leaving_man(arrived, m.promo), &m, &undo);
@@ -100,5 +100,5 @@ pub fn unplay<R: Rules>(board: &mut Board, m: Move, undo: Undo)
     ensures before { RestoresPosition R.rule board.old m undo board.new }
     ensures well_formed { IsWellFormed board.new }
 {
-    take_back::<R>(board, m, undo);
+    undo_move::<R>(board, m, undo);
 }

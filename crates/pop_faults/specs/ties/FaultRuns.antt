@@ -6,7 +6,7 @@ use Rattle.pop_input.specs.Blocks.{Entry, Sound as SoundEntry, Faulty as FaultyE
 use Rattle.pop_input.specs.declared.item.Item.{Item}
 use Rattle.pop_input.specs.declared.item.Item.TheVariants.{Sound, Faulty}
 use Rattle.pop_input.specs.declared.item.Last.{Last}
-use Rattle.pop_input.specs.ties.Places.{HasPlace}
+use Rattle.pop_input.specs.ties.Spans.{HasSpan}
 use Rattle.pop_input.specs.ties.ReaderState.{NextItem, ReaderState, initial_state}
 use Rattle.pop_input.specs.ties.Used.{UsesItem}
 use Rattle.pop_run.specs.Report.{entries_in, status}
@@ -20,15 +20,15 @@ abbrev pub item_of : Entry → Last → Item
 item_of (SoundEntry posed) last = Sound posed last
 item_of (FaultyEntry fault) last = Faulty fault last
 
--- From old to new this item is read and its bytes are used, and its place is the one where it is found.
+-- From old to new this item is read and its bytes are used, and its span is the one where it is found.
 pub record IsLocated (old new : ReaderState) (had left : Option (List ℕ)) (item : Located)
     : Type 0 where
   pub last : Last
   pub read : NextItem old new had left (item_of item.entry last)
   pub used : UsesItem old new had left (item_of item.entry last)
-  pub found : HasPlace old new had left (item_of item.entry last) item.place
+  pub found : HasSpan old new had left (item_of item.entry last) item.span
 
--- From old to new these items are read, one after another, and their places are those where they are found.
+-- From old to new these items are read, one after another, and their spans are those where they are found.
 abbrev pub AreLocated : ReaderState → ReaderState → Option (List ℕ) → Option (List ℕ) → List Located
     → Type 0
 AreLocated old new had left [] = (new ≡ old) × (left ≡ had)

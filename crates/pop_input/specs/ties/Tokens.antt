@@ -9,8 +9,8 @@ use Rattle.pop_text.specs.declared.scanner.End.TheVariants.{Broken}
 use Rattle.pop_text.specs.declared.read_fault.ReadFault.TheVariants.{TooLong as LongWord, InputTooLong, Device}
 use Rattle.pop_input.specs.Names.{text_word_of}
 use Rattle.pop_text.specs.declared.word.Word.{Word as Room}
-use Rattle.pop_input.specs.ties.Places.{place_from}
-use Rattle.pop_input.specs.declared.place.Place.{Place}
+use Rattle.pop_input.specs.ties.Spans.{span_from}
+use Rattle.pop_input.specs.declared.span.Span.{Span}
 use Rattle.pop_input.specs.declared.token.ReadToken.{ReadToken}
 use Rattle.pop_input.specs.declared.token.ReadToken.TheVariants.{Word as AWord, TooLong, Line, Ended, Cut}
 
@@ -54,30 +54,30 @@ UsesToken old new had left word (Line keyword) = UsesSome old new had left
 UsesToken old new had left word (Ended line) = UsesSome old new had left × ComesNext new (Ok None)
 UsesToken old new had left word (Cut fault) = UsesSome old new had left × ComesNext new (Err fault)
 
--- the place of a token: for a word the range from `start` to `end`, else the empty range at `end`
-abbrev pub range_of : ReadToken → ℕ → ℕ → Place
-range_of AWord start end = place_from start end
-range_of (TooLong line) start end = place_from start end
-range_of _ start end = place_from end end
+-- the span of a token: for a word the range from `start` to `end`, else the empty range at `end`
+abbrev pub range_of : ReadToken → ℕ → ℕ → Span
+range_of AWord start end = span_from start end
+range_of (TooLong line) start end = span_from start end
+range_of _ start end = span_from end end
 
--- a gap and a run after it are used, and the place is the range of the run
+-- a gap and a run after it are used, and the span is the range of the run
 pub record UsesRunAt (old new : Reading) (had left : Option (List ℕ)) (number : ℕ) (run : List ℕ)
-    (place : Place) : Type 0 where
+    (span : Span) : Type 0 where
   pub uses : UsesRun old new had left number run
-  pub start : place.start ≡ old.used + length uses.gap
-  pub end : place.end ≡ new.used
+  pub start : span.start ≡ old.used + length uses.gap
+  pub end : span.end ≡ new.used
 
--- the place that `next_token` stores: of a word, however long, else after the token
-abbrev pub IsPlaceOf : Reading → Reading → Option (List ℕ) → Option (List ℕ) → Room → Place
+-- the span that `next_token` stores: of a word, however long, else after the token
+abbrev pub IsSpanOf : Reading → Reading → Option (List ℕ) → Option (List ℕ) → Room → Span
     → ReadToken
     → Type 0
-IsPlaceOf old new had left word place AWord = UsesRunAt old new had left word.line word.bytes.items
-    place
-IsPlaceOf old new had left word place (TooLong line) = (run : List ℕ) × (longest_word < length run)
-    × UsesRunAt old new had left line run place × IsRunOver new
-IsPlaceOf old new had left word place (Line keyword) = Unit {0}
-IsPlaceOf old new had left word place (Ended line) = place ≡ place_from new.used new.used
-IsPlaceOf old new had left word place (Cut fault) = place ≡ place_from new.used new.used
+IsSpanOf old new had left word span AWord = UsesRunAt old new had left word.line word.bytes.items
+    span
+IsSpanOf old new had left word span (TooLong line) = (run : List ℕ) × (longest_word < length run)
+    × UsesRunAt old new had left line run span × IsRunOver new
+IsSpanOf old new had left word span (Line keyword) = Unit {0}
+IsSpanOf old new had left word span (Ended line) = span ≡ span_from new.used new.used
+IsSpanOf old new had left word span (Cut fault) = span ≡ span_from new.used new.used
 
 -- what `next_token` does, with the word and the text that it stores
 abbrev pub NextToken : Reading → Reading → Option (List ℕ) → Option (List ℕ) → Room → List ℕ

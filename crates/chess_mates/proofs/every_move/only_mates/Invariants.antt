@@ -4,12 +4,12 @@ use Rattle.chess_mates.proofs.every_move.only_mates.Given as goal
 abbrev pub invariant-loop-m : goal.invariant-loop-m
 invariant-loop-m g l = record {
   board : l.board ≡ l.fn.board;
-  within : IsPlaceIn g.R.Rules.rule l.fn.board l.moves;
-  rest : ((l.some || not (is_nil (moves_after g.R.Rules.rule l.fn.board l.moves.place)))
-      && list_all (is_mating g.R.Rules.rule l.fn.board) (moves_after g.R.Rules.rule l.fn.board l.moves.place))
-      ≡ (not (is_nil (moves_after g.R.Rules.rule l.fn.board l.fn.moves.place))
-      && list_all (is_mating g.R.Rules.rule l.fn.board) (moves_after g.R.Rules.rule l.fn.board l.fn.moves.place));
+  within : IsPlaceIn g.R.Rules.rule l.fn.board l.cursor;
+  rest : ((l.some || not (is_nil (moves_after g.R.Rules.rule l.fn.board l.cursor.place)))
+      && list_all (is_mating g.R.Rules.rule l.fn.board) (moves_after g.R.Rules.rule l.fn.board l.cursor.place))
+      ≡ (not (is_nil (moves_after g.R.Rules.rule l.fn.board l.fn.cursor.place))
+      && list_all (is_mating g.R.Rules.rule l.fn.board) (moves_after g.R.Rules.rule l.fn.board l.fn.cursor.place));
 }
 
 abbrev pub decreases-loop-m : goal.decreases-loop-m
-decreases-loop-m g l = length (moves_after g.R.Rules.rule l.fn.board l.moves.place)
+decreases-loop-m g l = length (moves_after g.R.Rules.rule l.fn.board l.cursor.place)

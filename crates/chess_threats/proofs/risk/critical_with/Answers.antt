@@ -1,4 +1,4 @@
-use Rattle.chess_rules.proofs.listing_moves.Targeting.{every_square_on}
+use Rattle.chess_rules.proofs.Targeting.{every_square_on}
 use Rattle.chess_threats.proofs.Chess.{Some, arith, bit_at, cases_eq, eq-eqb, false≢true, find_first, inl, inr, is_square, sym, word_has, ◌+◌, ◌-◌, ◌==◌, ◌∙◌}
 use Rattle.chess_threats.proofs.risk.critical_with.Goals as goal
 

@@ -6,9 +6,9 @@ abbrev pub invariant-loop-by : goal.invariant-loop-by
 invariant-loop-by g l =
     let following = moves_after g.R.Rules.rule l.fn.board in
     let game = chess Mate g.R.Rules.rule in
-    (l.board ≡ l.fn.board) × IsPlaceIn g.R.Rules.rule l.fn.board l.moves × (l.counted ≡ 0 → following l.fn.moves.place ≡ following l.moves.place)
-    × AreTried Selfmate g.R.Rules.rule 1 l.fn.board (following l.moves.place) (joined_value Selfmate game 2 l.fn.board (following l.fn.moves.place))
-    0 (smallest_below Selfmate game 2 l.fn.board (following l.fn.moves.place)) (length (following l.fn.moves.place)) l.counted
+    (l.board ≡ l.fn.board) × IsPlaceIn g.R.Rules.rule l.fn.board l.cursor × (l.counted ≡ 0 → following l.fn.cursor.place ≡ following l.cursor.place)
+    × AreTried Selfmate g.R.Rules.rule 1 l.fn.board (following l.cursor.place) (joined_value Selfmate game 2 l.fn.board (following l.fn.cursor.place))
+    0 (smallest_below Selfmate game 2 l.fn.board (following l.fn.cursor.place)) (length (following l.fn.cursor.place)) l.counted
 
 abbrev pub decreases-loop-by : goal.decreases-loop-by
-decreases-loop-by g l = length (moves_after g.R.Rules.rule l.fn.board l.moves.place)
+decreases-loop-by g l = length (moves_after g.R.Rules.rule l.fn.board l.cursor.place)

@@ -13,5 +13,5 @@ returns-then-counted-eq0 g c = search (rules, stuck, none_moves, after_start, c.
 pub returns : goal.returns
 unfolding joined_value
 returns g c =
-    let b = begins_plain Selfmate g.R.Rules.rule c.args.board.now c.of-moves.result.place c.args.search_state.now.opened (search rules) (omega arith) in
+    let b = begins_plain Selfmate g.R.Rules.rule c.args.board.now c.of-cursor.result.place c.args.search_state.now.opened (search rules) (omega arith) in
     search (rules, b, walk_among-two)

@@ -19,8 +19,8 @@ returns-then-is_decided-clause-next g c = λ p r.
     c.close.ensures.lowest c.close.ensures.above c.close.ensures.before _ p r
     (rw seek (test.decided g.R.Rules.rule c.args.aim _ _ _ _ c.in-Some.ensures.items c.requires.above p _ s))
 
-pub moves_at-moves-requires : goal.moves_at-moves-requires
-moves_at-moves-requires g c = search (rules, test.top_cursor)
+pub cursor_at-cursor-requires : goal.cursor_at-cursor-requires
+cursor_at-cursor-requires g c = search (rules, test.top_cursor)
 
 pub close-requires-in_default-next_tried : goal.close-requires-in_default-next_tried
 close-requires-in_default-next_tried g c = λ deep.
@@ -44,7 +44,7 @@ returns-in_default-next_tried-clause-next g c = λ p r.
     c.close-in_default-next_tried.ensures.lowest c.close-in_default-next_tried.ensures.above c.close-in_default-next_tried.ensures.before _ p
     (test.testing_same _ _ _ _ _ r c.next_tried.ensures.unchanged)
     (rw seek (test.exhausted g.R.Rules.rule c.args.aim _ _ _ _ c.in-Some.ensures.items c.requires.above p _ _ r u
-    (sym same ∙ (rw c.moves_at-moves.ensures.place at c.in_default-next_tried.ensures.next))))
+    (sym same ∙ (rw c.cursor_at-cursor.ensures.place at c.in_default-next_tried.ensures.next))))
 
 pub descend-requires : goal.descend-requires
 descend-requires g c =
@@ -60,7 +60,7 @@ returns-clause-room g c =
     rw (← c.attacker_to_move-seek.ensures) c.if-is_decided.ensures in
     let some = test.top_some g.R.Rules.rule c.args.aim _ _ _ _ taken c.requires.above _ _ c.requires.testing.1 in
     test.descend_room g.R.Rules.rule c.args.aim _ _ _ _ taken c.requires.above _ _ _ _ _ _ _ _ _ some u
-    (rw (c.moves_at-moves.ensures.place, ← c.place.ensures) at c.in-Some-next_tried.ensures.next.0) c.in-Some-next_tried.ensures.next.1
+    (rw (c.cursor_at-cursor.ensures.place, ← c.place.ensures) at c.in-Some-next_tried.ensures.next.0) c.in-Some-next_tried.ensures.next.1
     c.next_tried.ensures.within c.descend.result (rw c.next_tried.ensures.unchanged at c.descend.ensures.answer) c.requires.room
 
 pub returns-clause-next : goal.returns-clause-next
@@ -70,6 +70,6 @@ returns-clause-next g c = λ p r.
     rw (← c.attacker_to_move-seek.ensures) c.if-is_decided.ensures in
     let some = test.top_some g.R.Rules.rule c.args.aim _ _ _ _ taken c.requires.above _ _ r in
     test.descend_turns g.R.Rules.rule c.args.aim _ _ _ _ taken c.requires.above _ _ _ _ _ _ 0 _ _ some u
-    (rw (c.moves_at-moves.ensures.place, ← c.place.ensures) at c.in-Some-next_tried.ensures.next.0) c.in-Some-next_tried.ensures.next.1
+    (rw (c.cursor_at-cursor.ensures.place, ← c.place.ensures) at c.in-Some-next_tried.ensures.next.0) c.in-Some-next_tried.ensures.next.1
     c.next_tried.ensures.within c.descend.result (rw c.next_tried.ensures.unchanged at c.descend.ensures.answer) _ _
     (rw c.next_tried.ensures.unchanged at c.descend.ensures.opened) (rw c.next_tried.ensures.unchanged at c.descend.ensures.tried) p r

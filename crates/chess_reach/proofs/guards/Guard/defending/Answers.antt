@@ -1,5 +1,5 @@
 use Rattle.std.proofs.Common.{inr, refl}
-use Rattle.chess_rules.proofs.making_moves.Stays.{rebirth_small}
+use Rattle.chess_rules.proofs.Stays.{rebirth_small}
 use Rattle.chess_reach.proofs.guards.Guard.defending.Goals as goal
 
 pub returns : goal.returns

@@ -1,5 +1,5 @@
 use Rattle.chess_rules.proofs.Chess.{Move, ap, arith, cannot_expose, rules, sym, word_has, ◌∙◌}
-use Rattle.chess_rules.proofs.legality.Blocking.{cannot_expose_nobody, cannot_expose_to}
+use Rattle.chess_rules.proofs.Blocking.{cannot_expose_nobody, cannot_expose_to}
 use Rattle.chess_rules.proofs.legality.blockers.cannot_expose.Goals as goal
 
 pub returns-then-not-contains : goal.returns-then-not-contains

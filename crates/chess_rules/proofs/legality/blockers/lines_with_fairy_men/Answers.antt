@@ -1,5 +1,5 @@
 use Rattle.chess_attacks.proofs.Basics.{rules}
-use Rattle.chess_rules.proofs.legality.FairyLines.{fairy_lines_are, no_king_lined}
+use Rattle.chess_rules.proofs.FairyLines.{fairy_lines_are, no_king_lined}
 use Rattle.chess_rules.proofs.legality.blockers.lines_with_fairy_men.Goals as goal
 
 pub returns-in_default : goal.returns-in_default

@@ -1,4 +1,4 @@
-use Rattle.chess_rules.proofs.legality.Blocking.{checkers_are, blocker_squares_all, blocker_squares_some}
+use Rattle.chess_rules.proofs.Blocking.{checkers_are, blocker_squares_all, blocker_squares_some}
 use Rattle.chess_rules.proofs.legality.blockers.safety_from.Goals as goal
 
 pub returns-then-checkers-ne0-clause-checkers : goal.returns-then-checkers-ne0-clause-checkers

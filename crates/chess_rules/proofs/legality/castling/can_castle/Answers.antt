@@ -1,4 +1,4 @@
-use Rattle.chess_rules.proofs.making_moves.Castles.{castling}
+use Rattle.chess_rules.proofs.Castles.{castling}
 use Rattle.chess_attacks.proofs.Basics.{arith}
 use Rattle.chess_rules.proofs.legality.castling.can_castle.Goals as goal
 

@@ -1,5 +1,5 @@
 use Rattle.chess_rules.proofs.Chess.{arith, bit_at, find_first, rules, sym, ◌==◌, ◌∙◌}
-use Rattle.chess_rules.proofs.legality.StayingInCheck.{evasion_squares_all, evasion_squares_one}
+use Rattle.chess_rules.proofs.StayingInCheck.{evasion_squares_all, evasion_squares_one}
 use Rattle.chess_rules.proofs.legality.evasions.evasion_squares.Goals as goal
 
 pub returns : goal.returns

@@ -1,6 +1,6 @@
 use Rattle.chess_attacks.proofs.Basics.{rules}
 use Rattle.chess_attacks.proofs.attacks.Attacking.{attacked_plainly}
-use Rattle.chess_rules.proofs.legality.Exposing.{attacked_after}
+use Rattle.chess_rules.proofs.Exposing.{attacked_after}
 use Rattle.chess_rules.proofs.legality.exposure.is_attacked_after.Goals as goal
 
 pub returns-then-not-like_men_paralyse : goal.returns-then-not-like_men_paralyse

@@ -1,5 +1,5 @@
 use Rattle.chess_attacks.proofs.Basics.{◌∙◌}
-use Rattle.chess_rules.proofs.legality.Exposing.{faced_after}
+use Rattle.chess_rules.proofs.Exposing.{faced_after}
 use Rattle.chess_rules.proofs.legality.exposure.is_attacked_by_like_after.Goals as goal
 
 pub returns : goal.returns

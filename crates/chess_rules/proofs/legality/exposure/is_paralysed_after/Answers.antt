@@ -1,5 +1,5 @@
 use Rattle.chess_attacks.proofs.Basics.{rules}
-use Rattle.chess_rules.proofs.legality.Exposing.{paralysed_by}
+use Rattle.chess_rules.proofs.Exposing.{paralysed_by}
 use Rattle.chess_rules.proofs.legality.exposure.is_paralysed_after.Goals as goal
 
 pub returns-then-not-is : goal.returns-then-not-is

@@ -1,5 +1,5 @@
 use Rattle.chess_rules.proofs.Chess.{Move, Some, ap, arith, capture_square, is_simple, is_some, king_after, man_on, rules, occupancy_after, sym, true, ◌<◌, ◌∙◌, ◌≡◌}
-use Rattle.chess_rules.proofs.legality.Exposing.{exposed_is, no_king_exposed}
+use Rattle.chess_rules.proofs.Exposing.{exposed_is, no_king_exposed}
 use Rattle.chess_rules.proofs.legality.exposure.leaves_king_in_check_unplayed.Goals as goal
 
 pub returns-in_default-king_after : goal.returns-in_default-king_after

@@ -1,5 +1,5 @@
 use Rattle.chess_rules.proofs.Chess.{rules, word_has}
-use Rattle.chess_rules.proofs.listing_moves.Targeting.{aimed_by, arrival_missing, nobody_moves, promotion_amiss}
+use Rattle.chess_rules.proofs.Targeting.{aimed_by, arrival_missing, nobody_moves, promotion_amiss}
 use Rattle.chess_rules.proofs.legality.single_move.is_aimed.Goals as goal
 
 pub returns-in_default-clause-idle : goal.returns-in_default-clause-idle

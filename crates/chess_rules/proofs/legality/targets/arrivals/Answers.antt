@@ -1,5 +1,5 @@
 use Rattle.chess_rules.proofs.Chess.{sym, ◌∙◌}
-use Rattle.chess_rules.proofs.listing_moves.Arrivals.{arrivals_some}
+use Rattle.chess_rules.proofs.Arrivals.{arrivals_some}
 use Rattle.chess_rules.proofs.legality.targets.arrivals.Goals as goal
 
 pub returns : goal.returns

@@ -1,5 +1,5 @@
 use Rattle.chess_rules.proofs.Chess.{has_unmoved, sym, ◌∙◌}
-use Rattle.chess_rules.proofs.listing_moves.Arrivals.{castling_none}
+use Rattle.chess_rules.proofs.Arrivals.{castling_none}
 use Rattle.chess_rules.proofs.legality.targets.castling_squares.Goals as goal
 
 pub returns-else-has : goal.returns-else-has

@@ -1,4 +1,4 @@
-use Rattle.chess_rules.proofs.listing_moves.Arrivals.{free_word}
+use Rattle.chess_rules.proofs.Arrivals.{free_word}
 use Rattle.chess_rules.proofs.legality.targets.free_squares.Goals as goal
 
 pub returns : goal.returns

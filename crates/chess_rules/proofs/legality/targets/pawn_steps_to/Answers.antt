@@ -1,5 +1,5 @@
 use Rattle.chess_rules.proofs.Chess.{arith, bit_and, bit_at, bit_not, differs, eq-eqb, find_first, sym, w64, ◌==◌, ◌∙◌}
-use Rattle.chess_rules.proofs.listing_moves.Arrivals.{goes-blocked, goes-once, goes-twice}
+use Rattle.chess_rules.proofs.Arrivals.{goes-blocked, goes-once, goes-twice}
 use Rattle.chess_rules.proofs.legality.targets.pawn_steps_to.Goals as goal
 
 pub returns-then-rank-second_rank : goal.returns-then-rank-second_rank

@@ -1,6 +1,6 @@
 use Rattle.chess_rules.proofs.Chess.{arith, is_legal, per_origin, refl, sym, ◌*◌, ◌+◌, ◌∙◌, ◌≡◌}
 use Rattle.chess_rules.proofs.listing_moves.Counts.{count_barren, count_here, few_between, none_left}
-use Rattle.chess_rules.proofs.listing_moves.Walks.{aimed_from}
+use Rattle.chess_rules.proofs.Walks.{aimed_from}
 use Rattle.chess_rules.proofs.listing_moves.counting.count_of_pawn.Goals as goal
 
 pub is_legal-requires-clause-aimed : goal.is_legal-requires-clause-aimed

@@ -1,7 +1,7 @@
 use Rattle.chess_rules.proofs.Chess.{arith, refl, rules, sym, ◌∙◌}
 use Rattle.chess_rules.proofs.listing_moves.Counts.{counted_end, counted_past, few_between}
 use Rattle.chess_attacks.proofs.Bits.{off_zero}
-use Rattle.chess_rules.proofs.listing_moves.Walks.{plain_aimed}
+use Rattle.chess_rules.proofs.Walks.{plain_aimed}
 use Rattle.chess_rules.proofs.listing_moves.counting.count_of_piece.Goals as goal
 
 pub loop-to-init : goal.loop-to-init

@@ -1,5 +1,5 @@
 use Rattle.chess_rules.proofs.Chess.{is_legal, is_legal-idle}
-use Rattle.chess_rules.proofs.listing_moves.Walks.{own-origins}
+use Rattle.chess_rules.proofs.Walks.{own-origins}
 use Rattle.chess_rules.proofs.listing_moves.legal_moves.own_origins.Goals as goal
 
 pub returns : goal.returns

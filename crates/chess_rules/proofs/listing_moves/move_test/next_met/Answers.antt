@@ -1,5 +1,5 @@
 use Rattle.chess_rules.proofs.Chess.{arith, rules, ◌∙◌}
-use Rattle.chess_rules.proofs.listing_moves.Walks.{none-to, walk_begins, walk_on, walk_to}
+use Rattle.chess_rules.proofs.Walks.{none-to, walk_begins, walk_on, walk_to}
 use Rattle.chess_rules.proofs.listing_moves.move_test.next_met.Goals as goal
 
 pub loop-from-init : goal.loop-from-init

@@ -1,5 +1,5 @@
 use Rattle.chess_rules.proofs.Chess.{IsTargetCacheOf, ◌≡◌}
-use Rattle.chess_rules.proofs.listing_moves.Walks.{IsWalked}
+use Rattle.chess_rules.proofs.Walks.{IsWalked}
 use Rattle.chess_rules.proofs.listing_moves.move_test.next_met.Given as goal
 
 abbrev pub invariant-loop-from : goal.invariant-loop-from

@@ -1,5 +1,5 @@
 use Rattle.chess_rules.proofs.Chess.{and_right, arith, per_origin, rules, sym, ◌*◌, ◌∙◌, ◌≡◌}
-use Rattle.chess_rules.proofs.listing_moves.Walks.{aimed_from, none-from, none-onward, triple_of}
+use Rattle.chess_rules.proofs.Walks.{aimed_from, none-from, none-onward, triple_of}
 use Rattle.chess_rules.proofs.listing_moves.move_test.next_of_pawn.Goals as goal
 
 pub loop-at-init : goal.loop-at-init

@@ -1,6 +1,6 @@
 use Rattle.chess_rules.proofs.Chess.{arith, cases_eq, cases_lt, rules}
 unfoldable use Rattle.chess_rules.specs.ties.Places.{promotion_at, triple_at}
-use Rattle.chess_rules.proofs.listing_moves.Walks.{none-plain, plain_aimed}
+use Rattle.chess_rules.proofs.Walks.{none-plain, plain_aimed}
 use Rattle.chess_attacks.proofs.Bits.{off_zero}
 use Rattle.chess_rules.proofs.listing_moves.move_test.next_of_piece.Goals as goal
 

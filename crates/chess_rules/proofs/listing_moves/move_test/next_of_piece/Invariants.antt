@@ -1,6 +1,6 @@
 use Rattle.chess_rules.proofs.Chess.{None, bit_at, false, true, ℕ, ◌<◌, ◌==◌, ◌≡◌, ◌≤◌}
 use Rattle.chess_attacks.proofs.HoldTaken.{HoldTaken}
-use Rattle.chess_rules.proofs.listing_moves.Targeting.{arrival_from}
+use Rattle.chess_rules.proofs.Targeting.{arrival_from}
 use Rattle.chess_rules.proofs.listing_moves.move_test.next_of_piece.Given as goal
 
 -- no move to a square that was taken meets the test

@@ -1,5 +1,5 @@
 use Rattle.chess_attacks.proofs.Basics.{arith, rules, ◌∙◌, ◌≡◌}
-use Rattle.chess_rules.proofs.listing_moves.Places.{moves_after-start}
+use Rattle.chess_rules.proofs.Places.{moves_after-start}
 use Rattle.chess_rules.proofs.listing_moves.Calls.{answer_is, step_on}
 use Rattle.chess_rules.proofs.listing_moves.moves.nth_move.Goals as goal
 

@@ -1,7 +1,7 @@
 use Rattle.chess_rules.proofs.Chess.{and_left, arith, per_origin, refl, rules, ◌*◌, ◌∙◌, ◌≡◌}
 use Rattle.chess_rules.proofs.listing_moves.Counts.{counted_all, counted_none, counted_on, counted_to, few_between}
-use Rattle.chess_rules.proofs.listing_moves.Filtering.{wanted_origins}
-use Rattle.chess_rules.proofs.listing_moves.Walks.{none-to, walk_begins, walk_on, walk_to}
+use Rattle.chess_rules.proofs.Filtering.{wanted_origins}
+use Rattle.chess_rules.proofs.Walks.{none-to, walk_begins, walk_on, walk_to}
 use Rattle.chess_rules.proofs.listing_moves.square_filter.first_kept.Goals as goal
 
 pub loop-from-init : goal.loop-from-init

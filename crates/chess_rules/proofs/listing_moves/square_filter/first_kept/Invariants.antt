@@ -1,6 +1,6 @@
 use Rattle.chess_rules.proofs.Chess.{is_legal_and, ◌≡◌}
 use Rattle.chess_rules.proofs.listing_moves.Counts.{IsCounted}
-use Rattle.chess_rules.proofs.listing_moves.Walks.{IsWalked}
+use Rattle.chess_rules.proofs.Walks.{IsWalked}
 use Rattle.chess_rules.proofs.listing_moves.square_filter.first_kept.Given as goal
 
 -- the moves skipped so far fail the test, and are counted

@@ -1,6 +1,6 @@
 use Rattle.chess_rules.proofs.Chess.{arith, per_origin, refl, triple_at, ◌*◌, ◌+◌}
-use Rattle.chess_rules.proofs.listing_moves.Filtering.{sure_fails, removed_candidates, removed_fails}
-use Rattle.chess_rules.proofs.listing_moves.Walks.{triple_of}
+use Rattle.chess_rules.proofs.Filtering.{sure_fails, removed_candidates, removed_fails}
+use Rattle.chess_rules.proofs.Walks.{triple_of}
 use Rattle.std.proofs.lemmas.Bool.{ltb-true}
 use Rattle.chess_rules.proofs.listing_moves.square_filter.removes_some.Goals as goal
 

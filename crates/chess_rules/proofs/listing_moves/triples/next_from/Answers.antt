@@ -1,5 +1,5 @@
 use Rattle.chess_rules.proofs.Chess.{arith, bit_at, find_first, per_arrival, rules, sym, ◌*◌, ◌==◌, ◌∙◌, ◌≡◌}
-use Rattle.chess_rules.proofs.listing_moves.Targeting.{from-first, from-join, from-none, from-target, from-unpromoted, named_at, some_named, unnamed_at, nobody_moves}
+use Rattle.chess_rules.proofs.Targeting.{from-first, from-join, from-none, from-target, from-unpromoted, named_at, some_named, unnamed_at, nobody_moves}
 use Rattle.chess_rules.proofs.listing_moves.triples.next_from.Goals as goal
 
 pub returns-in_default-clause-barren : goal.returns-in_default-clause-barren

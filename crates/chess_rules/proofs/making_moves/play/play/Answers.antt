@@ -1,7 +1,7 @@
 use Rattle.chess_rules.proofs.Chess.{arith}
-use Rattle.chess_rules.proofs.making_moves.Fits.{can_move}
-use Rattle.chess_rules.proofs.making_moves.Pseudo.{made}
-use Rattle.chess_rules.proofs.making_moves.Stays.{after_by_well, captured_mortal}
+use Rattle.chess_rules.proofs.Fits.{can_move}
+use Rattle.chess_rules.proofs.Pseudo.{made}
+use Rattle.chess_rules.proofs.Stays.{after_by_well, captured_mortal}
 use Rattle.chess_rules.proofs.making_moves.play.play.Goals as goal
 
 pub play_by-requires-clause-moves : goal.play_by-requires-clause-moves

@@ -12,15 +12,15 @@ returns-in-Ok-None-clause-word g c =
 
 pub returns-in-Ok-Some-clause-used : goal.returns-in-Ok-Some-clause-used
 returns-in-Ok-Some-clause-used g c =
-    rw c.found_of_run.ensures (found_uses _ _ _ _ _ _ _ c.take_run-run.result c.skip_gap.ensures.uses (ap (λ p. p.line) c.self.view_is)
-    c.take_run-run.ensures.run)
+    rw c.found_of_run.ensures (found_uses _ _ _ _ _ _ _ c.read_run-run.result c.skip_gap.ensures.uses (ap (λ p. p.line) c.self.view_is)
+    c.read_run-run.ensures.run)
 
 pub returns-in-Ok-Some-clause-word : goal.returns-in-Ok-Some-clause-word
 returns-in-Ok-Some-clause-word g c =
     let at = rw c.in-Ok-Some.field-0-is at c.in-Ok-Some.ensures.at in
     let out = rw c.in-Ok-Some.field-0-is at c.in-Ok-Some.ensures.other in
     next_of _ _ _ _ _ (returns-in-Ok-Some-clause-used g c) (rw c.found_of_run.ensures
-    (found_stands _ _ _ _ _ c.take_run-run.result _ _ c.take_run-run.ensures.run at.1 out))
+    (found_stands _ _ _ _ _ c.read_run-run.result _ _ c.read_run-run.ensures.run at.1 out))
 
 pub returns-in-Err-clause-used : goal.returns-in-Err-clause-used
 returns-in-Err-clause-used g c = uses_cut _ _ _ _ c.in-Err.fault c.skip_gap.ensures.uses c.in-Err.ensures.at

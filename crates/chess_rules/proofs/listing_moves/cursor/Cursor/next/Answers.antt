@@ -1,5 +1,5 @@
 use Rattle.chess_attacks.proofs.Basics.{arith, rules}
-use Rattle.chess_rules.proofs.listing_moves.Places.{first_met-end, first_met-here, first_met-none, met_after-end, met_after-next, met_after-none, place_of_none, place_of_triple}
+use Rattle.chess_rules.proofs.Places.{first_met-end, first_met-here, first_met-none, met_after-end, met_after-next, met_after-none, place_of_none, place_of_triple}
 use Rattle.chess_rules.proofs.listing_moves.cursor.Cursor.next.Goals as goal
 
 pub returns-then-number-lt-TRIPLES-clause-rest : goal.returns-then-number-lt-TRIPLES-clause-rest

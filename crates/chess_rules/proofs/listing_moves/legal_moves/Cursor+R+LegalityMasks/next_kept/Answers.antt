@@ -1,4 +1,4 @@
-use Rattle.chess_rules.proofs.listing_moves.Filtering.{next_kept}
+use Rattle.chess_rules.proofs.Filtering.{next_kept}
 use Rattle.chess_attacks.proofs.Basics.{arith}
 use Rattle.chess_rules.proofs.listing_moves.legal_moves.Cursor+R+LegalityMasks.next_kept.Goals as goal
 
