@@ -129,7 +129,7 @@ function pasted(event) {
   const isField = /** @type {Element} */ (event.target).closest?.('input, select');
   const isText = event.target === element('text');
   if (isField || !text) return;
-  if (isTooLong(isText ? textNow().length + text.length : text.length)) event.preventDefault();
+  if (isTooLong(isText ? lengthBesideSelection() + text.length : text.length)) event.preventDefault();
   else takePasted(event, text, isText);
 }
 
@@ -151,6 +151,12 @@ function takePasted(event, text, isText) {
   else if (isText && isLongWith(text)) insertLong(text);
   else return;
   event.preventDefault();
+}
+
+/** Returns how many letters stay in the text where what is selected is replaced. */
+function lengthBesideSelection() {
+  const { from, to } = selectionNow();
+  return textNow().length - (to - from);
 }
 
 /** Returns whether the text box has more than what is selected in it. */
