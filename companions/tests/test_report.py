@@ -18,7 +18,7 @@ from pops_companions.report.items import (
     named_items,
 )
 from pops_companions.report.known_lines import KnownLines
-from pops_companions.report.moves import Castling, Mark, whole_move
+from pops_companions.report.moves import Castling, Mark
 from pops_companions.report.reader import ReportError, read_report, read_unfinished_report
 from tests import support
 
@@ -209,7 +209,7 @@ class Moves(unittest.TestCase):
         wanted = [item for text in items for item in read(text)]
         self.assertEqual(read("".join(items)), wanted)
         known = KnownLines()
-        with mock.patch.object(known_lines, "whole_move", wraps=whole_move) as moves:
+        with mock.patch.object(known_lines, "whole_move", wraps=known_lines.whole_move) as moves:
             for text in items[:3]:
                 list(read_unfinished_report([text.encode()], 0, known))
             first = moves.call_count
