@@ -212,12 +212,11 @@ class Moves(unittest.TestCase):
         with mock.patch.object(known_lines, "whole_move", wraps=known_lines.whole_move) as moves:
             for text in items[:3]:
                 list(read_unfinished_report([text.encode()], 0, known))
-            first = moves.call_count
+            self.assertGreater(moves.call_count, 0)
             moves.reset_mock()
             kept = [it for text in items for it in read_unfinished_report([text.encode()], 0, known)]
         self.assertEqual(kept, wanted)
-        # (an en passant capture of help play is read each time)
-        self.assertLess(moves.call_count, first / 2)
+        self.assertLess(moves.call_count, 3)
         with mock.patch.object(known_lines, "_MOST_KNOWN", 1):
             self.assertEqual(read("".join(items)), wanted)
 
