@@ -3,11 +3,9 @@
 import io
 import unittest
 from typing import Union
-from unittest import mock
 
 from pops_companions.chess.men import Colour, Kind, Man, Square
 from pops_companions.chess.stipulation import Condition, Goal, Play, Stipulation
-from pops_companions.report import known_lines
 from pops_companions.report.items import (
     FaultyItem,
     HelpLine,
@@ -17,9 +15,8 @@ from pops_companions.report.items import (
     SoundItem,
     named_items,
 )
-from pops_companions.report.known_lines import KnownLines
 from pops_companions.report.moves import Castling, Mark
-from pops_companions.report.reader import ReportError, read_report, read_unfinished_report
+from pops_companions.report.reader import ReportError, read_report
 from tests import support
 
 
@@ -195,30 +192,6 @@ class Moves(unittest.TestCase):
         self.assertEqual(first.below[0].below[0].move.half, 3)
         self.assertEqual([len(node.below) for node in first.below], [1, 0])
         self.assertEqual(second.below, [])
-
-
-    def test_what_lines_say_is_kept_for_other_pieces(self) -> None:
-        """A move that comes again, in whatever item or piece, is read once; nothing else differs."""
-        board = "".join(f"{rank} ........\n" for rank in range(8, 0, -1)) + "  abcdefgh\n"
-        tails = [
-            "h#2\nset\n1...Ra1-b1 2.Kh8-g8 Rb1-b8#\nsolutions: 1\nplay\nsolutions: 0, stopped\n",
-            "h#1 Circe\nset\nnot possible\nplay\n1.Kh8-g8 Ra1-a8#\n1.e4*d3 ep. Ra1-a8#\nsolutions: 2\n",
-            "#2\nplay\n1.Ra1-a2\n  1...Kh8-g8\n    2.Ra2-a8#\nsolutions: 1\n",
-        ]
-        items = [f"problem {at + 1}\n{board}{tail}\n" for at, tail in enumerate(tails * 2)]
-        wanted = [item for text in items for item in read(text)]
-        self.assertEqual(read("".join(items)), wanted)
-        known = KnownLines()
-        with mock.patch.object(known_lines, "whole_move", wraps=known_lines.whole_move) as moves:
-            for text in items[:3]:
-                list(read_unfinished_report([text.encode()], 0, known))
-            self.assertGreater(moves.call_count, 0)
-            moves.reset_mock()
-            kept = [it for text in items for it in read_unfinished_report([text.encode()], 0, known)]
-        self.assertEqual(kept, wanted)
-        self.assertLess(moves.call_count, 3)
-        with mock.patch.object(known_lines, "_MOST_KNOWN", 1):
-            self.assertEqual(read("".join(items)), wanted)
 
 
 class Refusals(unittest.TestCase):

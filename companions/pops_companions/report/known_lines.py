@@ -34,7 +34,6 @@ class KnownPhase:
         self.first_half = first_half
         self._odd = odd
         self.nodes: KnownNodes = {}
-        self._signed: KnownWords = {}
         self._words: list[KnownWords] = []
 
     def _side(self, half: int) -> Colour:
@@ -56,20 +55,6 @@ class KnownPhase:
                 self.nodes.clear()
             self.nodes[line] = known
         return known
-
-    def signed_move(self, line: str, half: int, lead: str, sign: str) -> Optional[PlayedMove]:
-        """Returns the move of a line of tries, between its number and a sign; None for another line."""
-        if not line.startswith(lead) or not line.endswith(sign):
-            return None
-        # (the number says which half-move it is)
-        move = self._signed.get(line)
-        if move is None:
-            move = whole_move(line[: -len(sign)], lead, half, self._side(half))
-            if move is not None:
-                if len(self._signed) >= _MOST_KNOWN:
-                    self._signed.clear()
-                self._signed[line] = move
-        return move
 
     def words(self, halves: int) -> list[KnownWords]:
         """Returns the known moves of lines of help play with so many half-moves, for each place."""

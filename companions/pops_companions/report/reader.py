@@ -424,8 +424,7 @@ class ReportReader:
 
     def _node(self, line: bytes, place: events.Place, least: int) -> events.NodeEvent:
         """Returns the node of a line, whose level is from `least` to one more than the level before."""
-        shown = line.decode("latin-1")
-        known = self._known_here.nodes.get(shown) or self._known_here.note_node(shown)
+        known = self._known_here.read_node(line.decode("latin-1"))
         if known is None or known.level > self._deepest_level or not least <= known.level <= self._deepest:
             raise self.refused("a move, or the number of solutions", line)
         level, text, move = known

@@ -11,8 +11,7 @@ from typing import Optional, Union
 from pops_companions.chess.stipulation import Condition, Play, Stipulation
 from pops_companions.report import events, items, lines
 from pops_companions.report.item_builder import GrowingPhase, total_text
-from pops_companions.report.known_lines import KnownLines
-from pops_companions.report.moves import PlayedMove, prefix
+from pops_companions.report.moves import PlayedMove, prefix, whole_move
 from pops_companions.report.reader import Allowed, ReportReader, State, read_events
 
 NO_TRIES = "no tries in help play"
@@ -20,6 +19,7 @@ _TRIES = "tries"
 _BUT = "  but"
 _STALEMATE = "    stalemate"
 _TRIES_TOTAL = re.compile(r"tries: ([0-9]{1,18})")
+_NODE = re.compile(r"( *)[0-9]")
 _Below = Union[events.MenaceEvent, events.RefutationEvent, events.StalemateEvent]
 _OfPhase = Union[events.PhaseEvent, events.NotPossibleEvent, events.TotalEvent]
 
@@ -70,8 +70,8 @@ AnyTriesItem = Union[items.FaultyItem, TriesItem, items.HeadlessItem]
 class TriesReader(ReportReader):
     """Reads a text of tries as it comes."""
 
-    def __init__(self, allowed: Allowed, known: Optional[KnownLines] = None):
-        super().__init__(allowed, 0, known)
+    def __init__(self, allowed: Allowed):
+        super().__init__(allowed)
         self._sign = events.FirstMoveKind.KEY
 
     def _begin(self, stipulation: Stipulation) -> None:
@@ -108,7 +108,9 @@ class TriesReader(ReportReader):
 
     def _signed_move(self, text: str, half: int, lead: str, sign: str) -> PlayedMove:
         """Returns the move of a line that has this sign after it."""
-        move = self._known_here.signed_move(text, half, lead, sign)
+        move = None
+        if text.endswith(sign):
+            move = whole_move(text[: -len(sign)], lead, half, self._stipulation.side(half))
         if move is None:
             raise self.refused(f"a move with {sign}", text.encode("latin-1"))
         return move
@@ -148,8 +150,8 @@ class TriesReader(ReportReader):
 
     def _is_node(self, line: bytes, level: int) -> bool:
         """Returns whether a line begins as a node of at least this level."""
-        shown = line.lstrip(b" ")
-        return len(line) - len(shown) >= 2 * level and shown[:1].isdigit()
+        found = _NODE.match(line.decode("latin-1"))
+        return found is not None and len(found[1]) >= 2 * level
 
     def _refutation(self, line: bytes) -> Sequence[events.Event]:
         text, lead = line.decode("latin-1"), f"    {prefix(2)}"
@@ -222,11 +224,6 @@ class TriesBuilder:
 
     def take(self, event: events.Event) -> Optional[AnyTriesItem]:
         """Takes the next event; returns the item that it ends, if it ends one."""
-        if isinstance(event, events.NodeEvent):
-            # (most are nodes)
-            self._lines.append("  " * event.level + event.text)
-            self._add_node(event)
-            return None
         if isinstance(event, events.EndEvent):
             item = self._item(event)
             self._begin()
@@ -242,6 +239,8 @@ class TriesBuilder:
             self._add_to_move(event)
         elif isinstance(event, (events.PhaseEvent, events.NotPossibleEvent, events.TotalEvent)):
             self._take_of_phase(event)
+        elif isinstance(event, events.NodeEvent):
+            self._add_node(event)
         return None
 
     def _add_to_move(self, event: _Below) -> None:
@@ -321,27 +320,24 @@ def lines_of(event: events.Event) -> list[str]:
     return [f"tries: {event.count}"] if isinstance(event, events.TriesTotalEvent) else []
 
 
-def read_tries(
-    source: Iterable[bytes], known: Optional[KnownLines] = None
-) -> Iterator[TriesReportItem]:
+def read_tries(source: Iterable[bytes]) -> Iterator[TriesReportItem]:
     """Yields the items of a text of tries, whose bytes come in pieces, as from a binary file.
 
-    `known` is what lines of other texts say. ReportError where the text isn't of the form, after the
-    items before.
+    ReportError where the text isn't of the form, after the items before.
     """
-    for item in _items(TriesReader(Allowed.FINISHED, known), source):
+    for item in _items(Allowed.FINISHED, source):
         assert not isinstance(item, items.HeadlessItem)
         yield item
 
 
 def read_unfinished_tries(source: Iterable[bytes]) -> Iterator[AnyTriesItem]:
     """Yields items as `read_tries` does, also of stopped problems and of a text that is cut."""
-    return _items(TriesReader(Allowed.UNFINISHED), source)
+    return _items(Allowed.UNFINISHED, source)
 
 
-def _items(reader: TriesReader, source: Iterable[bytes]) -> Iterator[AnyTriesItem]:
+def _items(allowed: Allowed, source: Iterable[bytes]) -> Iterator[AnyTriesItem]:
     builder = TriesBuilder()
-    for event in read_events(reader, source):
+    for event in read_events(TriesReader(allowed), source):
         item = builder.take(event)
         if item is not None:
             yield item

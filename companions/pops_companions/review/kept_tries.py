@@ -9,7 +9,6 @@ from typing import BinaryIO, NoReturn, Optional, Protocol, Union, cast
 from pops_companions import command
 from pops_companions.command import CommandError, Status
 from pops_companions.report.items import FaultyItem
-from pops_companions.report.known_lines import KnownLines
 from pops_companions.report.reader import ReportError
 from pops_companions.report.tries import TriesItem, read_tries
 
@@ -31,10 +30,9 @@ class KeptTries:
         """Reads all of it. CommandError where it is of another form."""
         self._name = name
         self._handle = source.fileno()
-        self._known = KnownLines()
         source.seek(0)
         try:
-            for _ in read_tries(source, self._known):
+            for _ in read_tries(source):
                 pass
         except ReportError as error:
             message = f"{name} is no text of pops-tries: {error}"
@@ -50,7 +48,7 @@ class KeptTries:
             return None
         start, length = self._places[number]
         try:
-            (item,) = read_tries([os.pread(self._handle, length, start)], self._known)
+            (item,) = read_tries([os.pread(self._handle, length, start)])
         except (ReportError, ValueError):
             self._refuse_changed()
         return item
