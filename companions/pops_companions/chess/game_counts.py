@@ -9,7 +9,7 @@ _MEN = 16
 _PAWNS = 8
 # How many men of a kind a side begins with, and one bishop on squares of each colour.
 _BEGUN = {Kind.QUEEN: 1, Kind.ROOK: 2, Kind.KNIGHT: 2}
-# The most men of a kind, by their letter, that surely have begun.
+# The most men of a kind, by their letter, that surely have begun: two bishops may be of one colour.
 _SURELY_BEGUN = [
     (letter, most)
     for pair, most in (("Pp", _PAWNS), ("Qq", 1), ("Rr", 2), ("Ss", 2), ("Bb", 1))
@@ -22,17 +22,9 @@ def surely_begun(letters: str) -> bool:
     game without promotions.
     """
     for letter, most in _SURELY_BEGUN:
-        if letters.count(letter) > most and not _are_two_bishops(letters, letter):
+        if letters.count(letter) > most:
             return False
     return True
-
-
-def _are_two_bishops(letters: str, letter: str) -> bool:
-    """Returns whether these men are a bishop on each colour, on a board of no more than a side's men."""
-    if letter not in "Bb" or letters.count(letter) != 2 or letters.count(".") < 64 - _MEN:
-        return False
-    one, other = letters.find(letter), letters.rfind(letter)
-    return (one % 8 + one // 8 + other % 8 + other // 8) % 2 == 1
 
 
 class Count(NamedTuple):

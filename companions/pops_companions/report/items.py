@@ -29,11 +29,6 @@ class HelpLine:
     text: str
     moves: tuple[PlayedMove, ...]
 
-    def __init__(self, text: str, moves: tuple[PlayedMove, ...]):
-        # (reports have many; what dataclasses make for frozen ones takes three times as long)
-        own = self.__dict__
-        own["text"], own["moves"] = text, moves
-
 
 @dataclass
 class Node:

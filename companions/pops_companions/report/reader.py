@@ -8,7 +8,6 @@ inside a problem.
 """
 
 import io
-import re
 from collections.abc import Callable, Iterable, Iterator, Sequence
 from enum import Enum
 from sys import intern
@@ -49,7 +48,6 @@ _LINES_OF_HEAD = 14
 # same, and how many are kept.
 _LONGEST_TAIL = 512
 _MOST_TAILS = 8192
-_RANKS = re.compile("[^ \\n]{8}")
 # What a state makes of a line.
 State = Callable[[bytes], Sequence[events.Event]]
 
@@ -437,7 +435,7 @@ def _board_of(lines_of_ranks: bytes) -> items.Board:
     """Returns the board of eight lines as `8 ........`."""
     text = lines_of_ranks.decode("ascii")
     # (other boards have most ranks too)
-    return items.Board(tuple(map(intern, _RANKS.findall(text))))
+    return items.Board(tuple([intern(text[at : at + 8]) for at in range(2, len(text), 11)]))
 
 
 def read_events(reader: ReportReader, source: Iterable[bytes]) -> Iterator[events.Event]:
