@@ -3,7 +3,6 @@
 import re
 from dataclasses import dataclass
 from enum import Enum
-from functools import cached_property
 
 from pops_companions.chess.men import Colour
 
@@ -66,18 +65,18 @@ class Stipulation:
             raise ValueError(f"only help play has half a move more: {text!r}")
         return Stipulation(play, Goal(parts[2]), int(parts[3]), half_more)
 
-    @cached_property
+    @property
     def text(self) -> str:
         return f"{_LETTERS[self.play]}{self.goal.value}{self.moves}{'.5' if self.half_more else ''}"
 
-    @cached_property
+    @property
     def half_moves(self) -> int:
         """The number of half-moves of the longest play."""
         if self.play is Play.DIRECT:
             return max(2 * self.moves - 1, 0)
         return 2 * self.moves + (1 if self.half_more else 0)
 
-    @cached_property
+    @property
     def first_half(self) -> int:
         """The number of the first half-move of the play; set play begins one later."""
         return 2 if self.half_more else 1

@@ -2,10 +2,23 @@
 
 from collections.abc import Sequence
 from dataclasses import dataclass, field
-from typing import Any, Optional, Union
+from typing import Any, NamedTuple, Optional, Union
 
 from pops_companions.report import events, items, lines
-from pops_companions.report.known_lines import KnownNodes
+from pops_companions.report.moves import PlayedMove
+
+
+class KnownNode(NamedTuple):
+    """What a line says that was read before: its level, the whole line, its move."""
+
+    level: int
+    text: str
+    move: PlayedMove
+
+
+KnownNodes = dict[bytes, KnownNode]
+# More than the half-moves of any stipulation that pops takes.
+MOST_LEVELS = 64
 
 
 @dataclass
@@ -33,7 +46,7 @@ class GrowingPhase:
         self._path.append((event.level, node))
         self.lines.append(text)
 
-    def add_known(self, source: Sequence[str], start: int, known: KnownNodes, last: int) -> int:
+    def add_known(self, source: Sequence[bytes], start: int, known: KnownNodes, last: int) -> int:
         """Adds the nodes of the lines from a place on, as far as they are known and go on in levels, of
         which `last` is the deepest.
 
@@ -119,7 +132,7 @@ class ItemBuilder:
         self._head = head
 
     def take_known(
-        self, source: Sequence[str], start: int, known: KnownNodes, last: int
+        self, source: Sequence[bytes], start: int, known: KnownNodes, last: int
     ) -> int:
         """Takes lines of the phase at hand as their events would say them; returns how many."""
         assert self._growing is not None

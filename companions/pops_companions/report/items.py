@@ -11,10 +11,6 @@ from pops_companions.report import lines
 from pops_companions.report.moves import PlayedMove
 
 
-_DIAGRAM = list(Square.of_diagram())
-_NOT_POSSIBLE = lines.NOT_POSSIBLE.decode("ascii")
-
-
 class PhaseKind(Enum):
     """A phase of the solutions; its value is the printed word."""
 
@@ -62,7 +58,7 @@ class Phase:
 
     @property
     def is_possible(self) -> bool:
-        return self.last_line != _NOT_POSSIBLE
+        return self.last_line != lines.NOT_POSSIBLE.decode("ascii")
 
     @property
     def nodes(self) -> list[Node]:
@@ -103,10 +99,9 @@ class Board:
     @property
     def men(self) -> dict[Square, Man]:
         """The men by their squares, in the order of the diagram."""
-        squares = _DIAGRAM
         return {
-            squares[place]: Man.of_letter(letter)
-            for place, letter in enumerate(self.letters)
+            square: Man.of_letter(letter)
+            for square, letter in zip(Square.of_diagram(), self.letters)
             if letter != "."
         }
 
@@ -153,10 +148,7 @@ class SoundItem:
 
     def phase(self, kind: PhaseKind) -> Optional[Phase]:
         """Returns a phase; None where the report doesn't show it."""
-        for phase in self.phases or ():
-            if phase.kind is kind:
-                return phase
-        return None
+        return next((it for it in self.phases or () if it.kind is kind), None)
 
 
 @dataclass(frozen=True)

@@ -52,8 +52,6 @@ class PlayedMove:
     mark: Optional[Mark] = None
 
 
-_KINDS = {kind.value: kind for kind in Kind}
-_MARKS = {mark.value: mark for mark in Mark}
 _REBORN = LETTERS.replace("K", "")
 _PROMOTED = _REBORN.replace("P", "")
 _MOVE = re.compile(
@@ -77,36 +75,30 @@ def read_move(text: str, place: int, half: int, side: Colour) -> Optional[tuple[
     return None if parts is None else (_played(parts, half, side), parts.end())
 
 
-def whole_move(text: str, lead: str, half: int, side: Colour) -> Optional[PlayedMove]:
-    """Returns the move that makes up a line after its lead; None for another line."""
-    found = read_move(text, len(lead), half, side) if text.startswith(lead) else None
-    return None if found is None or found[1] != len(text) else found[0]
-
-
 def _played(parts: "re.Match[str]", half: int, side: Colour) -> PlayedMove:
-    castled, man, origin, step, arrival, passant, promoted, colour, kind, square, marked = parts.groups()
-    mark = _MARKS[marked] if marked else None
-    if castled:
-        castling = Castling(castled)
+    mark = Mark(parts["mark"]) if parts["mark"] else None
+    if parts["castling"]:
+        castling = Castling(parts["castling"])
         rank = 1 if side is Colour.WHITE else 8
         king, arrival = Square(5, rank), Square(7 if castling is Castling.SHORT else 3, rank)
         return PlayedMove(
             parts[0], half, side, Kind.KING, king, arrival, castling=castling, mark=mark
         )
     rebirth = None
-    if kind:
-        reborn = Man(Colour.WHITE if colour == "w" else Colour.BLACK, _KINDS[kind])
-        rebirth = Rebirth(reborn, Square.of_name(square))
+    if parts["reborn_kind"]:
+        colour = Colour.WHITE if parts["reborn_colour"] == "w" else Colour.BLACK
+        reborn = Man(colour, Kind(parts["reborn_kind"]))
+        rebirth = Rebirth(reborn, Square.of_name(parts["reborn_square"]))
     return PlayedMove(
         parts[0],
         half,
         side,
-        _KINDS[man or "P"],
-        Square.of_name(origin),
-        Square.of_name(arrival),
-        step == "*",
-        passant is not None,
-        _KINDS[promoted] if promoted else None,
+        Kind(parts["man"] or "P"),
+        Square.of_name(parts["origin"]),
+        Square.of_name(parts["arrival"]),
+        parts["step"] == "*",
+        parts["en_passant"] is not None,
+        Kind(parts["promotion"]) if parts["promotion"] else None,
         None,
         rebirth,
         mark,

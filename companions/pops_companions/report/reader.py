@@ -10,15 +10,15 @@ inside a problem.
 import io
 from collections.abc import Callable, Iterable, Iterator, Sequence
 from enum import Enum
+from functools import lru_cache
 from sys import intern
 from typing import Optional
 
-from pops_companions.chess.stipulation import Play, Stipulation
+from pops_companions.chess.men import Colour
+from pops_companions.chess.stipulation import Condition, Play, Stipulation
 from pops_companions.report import events, items, lines
-from pops_companions.report.item_builder import ItemBuilder
-from pops_companions.report.known_lines import KnownLines
+from pops_companions.report.item_builder import MOST_LEVELS, ItemBuilder, KnownNode, KnownNodes
 from pops_companions.report.moves import PlayedMove, prefix, read_move
-from pops_companions.report.plain_items import PlainItems, Said, asked_of, deepest_level, halves_of
 
 
 class ReportError(ValueError):
@@ -41,6 +41,8 @@ CUT = "the report ends here"
 _LONGEST_SHOWN = 60
 # No line of a report is as long; so a text without line ends isn't read to its end, if it has one.
 _LONGEST_LINE = 1 << 20
+# So that the memory for known lines is bounded.
+_MOST_KNOWN = 100_000
 _PIECE = 1 << 16
 # More lines than the head of a problem has, with the line of its first phase.
 _LINES_OF_HEAD = 14
@@ -50,6 +52,17 @@ _LONGEST_TAIL = 512
 _MOST_TAILS = 8192
 # What a state makes of a line.
 State = Callable[[bytes], Sequence[events.Event]]
+# What an item says after its board.
+_Tail = tuple[Stipulation, Optional[Condition], Optional[tuple[items.Phase, ...]]]
+
+
+@lru_cache(maxsize=1000)
+def asked_of(line: bytes) -> tuple[Stipulation, Optional[Condition]]:
+    """Returns what the line of the stipulation asks, by its first two words. ValueError where it asks
+    nothing.
+    """
+    words = line.decode("latin-1").split(" ")
+    return Stipulation.of_text(words[0]), Condition(words[1]) if len(words) > 1 else None
 
 
 class ReportReader:
@@ -57,10 +70,8 @@ class ReportReader:
     on to the next state.
     """
 
-    def __init__(self, allowed: Allowed, line: int = 0, known: Optional[KnownLines] = None):
-        """Begins a text, or a piece of one, which follows `line` lines. `known` is what lines of other
-        pieces say.
-        """
+    def __init__(self, allowed: Allowed, line: int = 0):
+        """Begins a text, or a piece of one, which follows `line` lines."""
         self._allowed = allowed
         self._state: State = self._problem
         self._begun = b""
@@ -74,11 +85,14 @@ class ReportReader:
         self._kind = items.PhaseKind.PLAY
         self._count = 0
         self._deepest = 0
-        self._known = KnownLines() if known is None else known
-        self._known_here = self._known.of_phase(self._stipulation, self._kind)
-        self._plain = PlainItems(self._known)
+        # What lines of battle play say, for each first half-move.
+        self._known: dict[int, KnownNodes] = {}
+        self._known_here: KnownNodes = {}
+        # The moves of lines of help play by their words, for each place, for each first half-move.
+        self._known_moves: dict[int, list[dict[str, PlayedMove]]] = {}
+        self._known_moves_here: list[dict[str, PlayedMove]] = []
         # What short items say after their boards.
-        self._tails: dict[bytes, Said] = {}
+        self._tails: dict[bytes, _Tail] = {}
 
     def feed(self, data: bytes) -> Iterator[events.Event]:
         """Takes some bytes of the text, cut anywhere, and yields what they say.
@@ -222,33 +236,23 @@ class ReportReader:
             end = whole if found < 0 else found + len(lines.ITEM_END)
             head = lines.HEAD.match(text, at, end) if self._state == self._problem and found >= 0 else None
             tail = b"" if head is None else text[head.end() : end]
-            said = None if head is None else self._said(tail)
-            if head is not None and said is not None:
+            if head is not None and (known := self._tails.get(tail)) is not None:
                 self._line += text.count(b"\n", at, end)
                 title, author, ranks = head.group(2, 3, 4)
-                yield items.SoundItem(int(head[1]), title, author, _board_of(ranks), *said)
+                yield items.SoundItem(int(head[1]), title, author, _board_of(ranks), *known)
             else:
-                for item in self._items_of(text[at : end - 1].decode("latin-1").split("\n"), builder):
+                for item in self._items_of(text[at : end - 1].split(b"\n"), builder):
                     self._note_tail(tail, item)
                     yield item
             at = end
-
-    def _said(self, tail: bytes) -> Optional[Said]:
-        """Returns what a whole item says after its board, if that is known or plain."""
-        said = self._tails.get(tail)
-        if said is None:
-            said = self._plain.said(tail)
-            if said is not None and len(tail) <= _LONGEST_TAIL and len(self._tails) < _MOST_TAILS:
-                self._tails[tail] = said
-        return said
 
     def _note_tail(self, tail: bytes, item: items.AnyItem) -> None:
         """Notes what a finished item says after its board."""
         if 0 < len(tail) <= _LONGEST_TAIL and len(self._tails) < _MOST_TAILS:
             if isinstance(item, items.SoundItem) and item.unfinished is None:
-                self._tails[tail] = Said(item.stipulation, item.condition, item.phases)
+                self._tails[tail] = item.stipulation, item.condition, item.phases
 
-    def _items_of(self, lines_left: list[str], builder: ItemBuilder) -> Iterator[items.AnyItem]:
+    def _items_of(self, lines_left: list[bytes], builder: ItemBuilder) -> Iterator[items.AnyItem]:
         """Takes lines, and yields the items that end in them."""
         at = 0
         while at < len(lines_left):
@@ -256,19 +260,19 @@ class ReportReader:
             at += self._take_solutions(lines_left, at, builder)
             if at == len(lines_left):
                 return
-            for event in self.take(lines_left[at].encode("latin-1")):
+            for event in self.take(lines_left[at]):
                 item = builder.take(event)
                 if item is not None:
                     yield item
             at += 1
 
-    def _take_head(self, lines_left: list[str], at: int, builder: ItemBuilder) -> int:
+    def _take_head(self, lines_left: list[bytes], at: int, builder: ItemBuilder) -> int:
         """Takes a head with a board and the line of its first phase, from a line on; returns how many
         lines. It takes none where the head is another, or isn't whole.
         """
         if self._state != self._problem:
             return 0
-        text = "\n".join(lines_left[at : at + _LINES_OF_HEAD]).encode("latin-1")
+        text = b"\n".join(lines_left[at : at + _LINES_OF_HEAD])
         head = lines.HEAD.match(text)
         found = head and lines.FIRST_PHASE.match(text, head.end())
         if head is None or found is None:
@@ -288,11 +292,11 @@ class ReportReader:
         self._line += taken
         return taken
 
-    def _take_solutions(self, lines_left: list[str], at: int, builder: ItemBuilder) -> int:
+    def _take_solutions(self, lines_left: list[bytes], at: int, builder: ItemBuilder) -> int:
         """Takes the solutions from a line on, as far as they are plain; returns how many lines."""
         if self._state not in (self._solution, self._first_solution) or at == len(lines_left):
             return 0
-        if lines_left[at] == lines.NOT_POSSIBLE.decode("ascii"):
+        if lines_left[at] == lines.NOT_POSSIBLE:
             return 0
         self._state = self._solution
         if self._stipulation.play is Play.HELP:
@@ -303,35 +307,54 @@ class ReportReader:
         self._count, self._deepest = builder.phase_so_far
         return taken
 
-    def _take_nodes(self, lines_left: list[str], at: int, builder: ItemBuilder) -> int:
+    def _take_nodes(self, lines_left: list[bytes], at: int, builder: ItemBuilder) -> int:
         """Takes lines of battle play; returns how many."""
         place, last = at, self._deepest_level
-        known = self._known_here
         while place < len(lines_left):
-            place += builder.take_known(lines_left, place, known.nodes, last)
-            if place == len(lines_left) or lines_left[place] in known.nodes:
-                break
-            if known.note_node(lines_left[place]) is None:
+            place += builder.take_known(lines_left, place, self._known_here, last)
+            if place == len(lines_left) or not self._note_node(lines_left[place]):
                 break
         return place - at
 
-    def _take_help_lines(self, lines_left: list[str], at: int, builder: ItemBuilder) -> int:
+    def _note_node(self, line: bytes) -> bool:
+        """Notes what a line says that wasn't known; returns whether it is one of battle play."""
+        if line.startswith(lines.SOLUTIONS) or line in self._known_here:
+            return False
+        known = self._read_node(line)
+        if known is None or len(self._known_here) >= _MOST_KNOWN:
+            return False
+        self._known_here[line] = known
+        return True
+
+    def _take_help_lines(self, lines_left: list[bytes], at: int, builder: ItemBuilder) -> int:
         """Takes lines of help play whose words are one move each; returns how many."""
-        known = self._known_here.words(self._halves)
+        known = self._known_moves_here
         for place in range(at, len(lines_left)):
-            text = lines_left[place]
+            text = lines_left[place].decode("latin-1")
             words = text.split(" ")
             if len(words) != len(known):
                 return place - at
             try:
                 moves = tuple([here[word] for here, word in zip(known, words)])
             except KeyError:
-                noted = [self._known_here.note_words(*it) for it in enumerate([one] for one in words)]
-                if not all(noted):
+                if not self._note_moves(words):
                     return place - at
                 moves = tuple([here[word] for here, word in zip(known, words)])
             builder.take_help_line(items.HelpLine(text, moves))
         return len(lines_left) - at
+
+    def _note_moves(self, words: list[str]) -> bool:
+        """Notes the moves of a line's words that weren't known; returns whether now all are."""
+        for place, (known, word) in enumerate(zip(self._known_moves_here, words)):
+            if word in known:
+                continue
+            half = self._first_half + place
+            lead = prefix(half) if half % 2 == 1 or place == 0 else ""
+            move = whole_move(word, lead, half, self._stipulation.side(half))
+            if move is None or len(known) >= _MOST_KNOWN:
+                return False
+            known[word] = move
+        return True
 
     def _begin(self, stipulation: Stipulation) -> None:
         """Sets the state that takes the first line after the head."""
@@ -353,7 +376,11 @@ class ReportReader:
 
     def _phase(self, kind: items.PhaseKind) -> Sequence[events.Event]:
         self._kind, self._count, self._deepest = kind, 0, 0
-        self._known_here = self._known.of_phase(self._stipulation, kind)
+        self._known_here = self._known.setdefault(self._first_half, {})
+        if self._stipulation.play is Play.HELP:
+            known = self._known_moves.setdefault(self._first_half, [])
+            known.extend({} for _ in range(self._halves - len(known)))
+            self._known_moves_here = known[: self._halves]
         self._state = self._first_solution
         return (events.PhaseEvent(self._number, kind),)
 
@@ -394,7 +421,7 @@ class ReportReader:
     @property
     def _halves(self) -> int:
         """How many half-moves a line of help play has."""
-        return halves_of(self._stipulation, self._first_half)
+        return self._stipulation.first_half + self._stipulation.half_moves - self._first_half
 
     def _help_line(self, line: bytes) -> items.HelpLine:
         text = line.decode("latin-1")
@@ -418,17 +445,33 @@ class ReportReader:
     @property
     def _deepest_level(self) -> int:
         """The level of the last half-move of battle play."""
-        return deepest_level(self._stipulation, self._first_half)
+        last = self._stipulation.first_half + min(self._stipulation.half_moves, MOST_LEVELS) - 1
+        return last - self._first_half
+
+    def _read_node(self, line: bytes) -> Optional[KnownNode]:
+        """Returns what a line of battle play says; None for another line."""
+        text = line.decode("latin-1")
+        level = (len(text) - len(text.lstrip(" "))) // 2
+        half = self._first_half + level
+        lead = " " * (2 * level) + prefix(half)
+        move = whole_move(text, lead, half, self._stipulation.side(half))
+        return None if move is None else KnownNode(level, text, move)
 
     def _node(self, line: bytes, place: events.Place, least: int) -> events.NodeEvent:
         """Returns the node of a line, whose level is from `least` to one more than the level before."""
-        known = self._known_here.read_node(line.decode("latin-1"))
+        known = self._read_node(line)
         if known is None or known.level > self._deepest_level or not least <= known.level <= self._deepest:
             raise self.refused("a move, or the number of solutions", line)
         level, text, move = known
         self._count += level == 0
         self._deepest = level + 1
         return events.NodeEvent(self._number, self._kind, place, level, text[2 * level :], move)
+
+
+def whole_move(text: str, lead: str, half: int, side: Colour) -> Optional[PlayedMove]:
+    """Returns the move that makes up a line after its lead; None for another line."""
+    found = read_move(text, len(lead), half, side) if text.startswith(lead) else None
+    return None if found is None or found[1] != len(text) else found[0]
 
 
 def _board_of(lines_of_ranks: bytes) -> items.Board:
@@ -450,24 +493,24 @@ def read_report(source: Iterable[bytes]) -> Iterator[items.Item]:
 
     ReportError where the text departs from the grammar, after the items before.
     """
-    for item in _items(ReportReader(Allowed.FINISHED), source):
+    for item in _items(Allowed.FINISHED, source):
         assert not isinstance(item, items.HeadlessItem)
         yield item
 
 
-def read_unfinished_report(
-    source: Iterable[bytes], line: int = 0, known: Optional[KnownLines] = None
-) -> Iterator[items.AnyItem]:
+def read_unfinished_report(source: Iterable[bytes], line: int = 0) -> Iterator[items.AnyItem]:
     """Yields items as `read_report` does, also of stopped problems and of a report that is cut.
 
     These problems have what the report shows of them. A cut line is left out. `line` lines of the
-    report are before the source, and `known` is what lines of other pieces say.
+    report are before the source.
     """
-    return _items(ReportReader(Allowed.UNFINISHED, line, known), source)
+    return _items(Allowed.UNFINISHED, source, line)
 
 
-def _items(reader: ReportReader, source: Iterable[bytes]) -> Iterator[items.AnyItem]:
-    builder = ItemBuilder()
+def _items(
+    allowed: Allowed, source: Iterable[bytes], line: int = 0
+) -> Iterator[items.AnyItem]:
+    reader, builder = ReportReader(allowed, line), ItemBuilder()
     for data in pieces_of(source):
         yield from reader.feed_builder(data, builder)
     for event in reader.close():

@@ -11,8 +11,8 @@ from typing import Optional, Union
 from pops_companions.chess.stipulation import Condition, Play, Stipulation
 from pops_companions.report import events, items, lines
 from pops_companions.report.item_builder import GrowingPhase, total_text
-from pops_companions.report.moves import PlayedMove, prefix, whole_move
-from pops_companions.report.reader import Allowed, ReportReader, State, read_events
+from pops_companions.report.moves import PlayedMove, prefix
+from pops_companions.report.reader import Allowed, ReportReader, State, read_events, whole_move
 
 NO_TRIES = "no tries in help play"
 _TRIES = "tries"

@@ -124,29 +124,21 @@ def reaches(node: Node, half: int) -> bool:
     return node.move.half >= half or any(reaches(below, half) for below in node.below)
 
 
-def late_partings(lines: Sequence[HelpLine]) -> list[Dual]:
-    """Returns the choices in help lines that begin alike: all but that of the first half-move."""
-    duals: list[Dual] = []
-    if len(lines) > 1:
-        _add_partings([line.moves for line in lines], 0, duals)
-    return duals
+def late_partings(lines: Sequence[HelpLine]) -> Iterator[Dual]:
+    """Yields the choices in help lines that begin alike: all but that of the first half-move."""
+    if lines:
+        yield from _partings([line.moves for line in lines], 0)
 
 
-def _add_partings(lines: list[tuple[PlayedMove, ...]], depth: int, duals: list[Dual]) -> None:
-    """Adds the choices of several lines that are alike up to a place."""
-    length = len(lines[0])
+def _partings(lines: list[tuple[PlayedMove, ...]], depth: int) -> Iterator[Dual]:
+    if depth == len(lines[0]) or len(lines) == 1:
+        return
     groups: "dict[str, list[tuple[PlayedMove, ...]]]" = {}
-    while len(groups) < 2:
-        if depth == length:
-            return
-        groups = {}
-        for line in lines:
-            groups.setdefault(line[depth].text, []).append(line)
-        depth += 1
-    if depth > 1:
-        choices = tuple([group[0][depth - 1] for group in groups.values()])
-        place = Place.AT_THE_END if depth == length else Place.EARLIER
-        duals.append(Dual(lines[0][: depth - 1], choices, lines[0][-1].half, place))
+    for line in lines:
+        groups.setdefault(line[depth].text, []).append(line)
+    if depth > 0 and len(groups) > 1:
+        choices = tuple(group[0][depth] for group in groups.values())
+        place = Place.AT_THE_END if depth == len(lines[0]) - 1 else Place.EARLIER
+        yield Dual(lines[0][:depth], choices, lines[0][-1].half, place)
     for group in groups.values():
-        if len(group) > 1:
-            _add_partings(group, depth, duals)
+        yield from _partings(group, depth + 1)

@@ -9,7 +9,6 @@ from typing import BinaryIO, NamedTuple, Union
 
 from pops_companions.many.forked import Alone, Copies, can_fork
 from pops_companions.report.items import AnyItem
-from pops_companions.report.known_lines import KnownLines
 from pops_companions.report.reader import pieces_of, read_unfinished_report
 from pops_companions.report.source import NamedText
 from pops_companions.review.beside import Beside, Course
@@ -52,7 +51,6 @@ class JudgedReport:
         self._form = form
         self._tally = tally
         self._course = Course()
-        self._known = KnownLines()
         self._like = None
         if form.is_plain and beside.is_alone:
             self._like = LikeProblems(form.encoding, form.apart)
@@ -166,8 +164,7 @@ class JudgedReport:
         return True
 
     def _items(self, chunks: Iterable[bytes], line: int) -> Iterator[AnyItem]:
-        read = partial(read_unfinished_report, line=line, known=self._known)
-        return self._report.items(chunks, read)
+        return self._report.items(chunks, partial(read_unfinished_report, line=line))
 
     def _items_to_end(self, chunks: Iterable[bytes], line: int) -> Iterator[AnyItem]:
         yield from self._items(chunks, line)

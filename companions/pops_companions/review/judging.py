@@ -351,7 +351,7 @@ def _ends(move: PlayedMove) -> bool:
 
 def _judge_duals(judgement: Judgement, stipulation: Stipulation, play: Phase) -> None:
     if stipulation.play is Play.HELP:
-        duals = late_partings(play.help_lines)
+        duals = list(late_partings(play.help_lines))
     else:
         keys = play.nodes
         if any(not key.below and not _ends(key.move) for key in keys):

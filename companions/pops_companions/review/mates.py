@@ -8,7 +8,8 @@ from collections.abc import Iterable, Iterator, Sequence
 from functools import lru_cache
 from typing import NamedTuple, Optional
 
-from pops_companions.chess.men import FAIRY_KINDS, GAITS, STEPS, Colour, Gait, Kind, Man, Square
+from pops_companions.chess.attacks import squares_between
+from pops_companions.chess.men import FAIRY_KINDS, Man, Square
 from pops_companions.chess.stipulation import Goal, Play
 from pops_companions.report.items import HelpLine, PhaseKind, SoundItem
 from pops_companions.report.moves import Castling, Mark, PlayedMove
@@ -20,7 +21,6 @@ Picture = frozenset[tuple[int, int, str]]
 
 _KING = "k"
 _OFFICERS = frozenset("QRBS")
-_WHITE = frozenset(kind.value for kind in Kind)
 _FAIRY = frozenset(letter for kind in FAIRY_KINDS for letter in (kind.value, kind.value.lower()))
 _SQUARES = list(Square.of_diagram())
 _PLACES = {square: place for place, square in enumerate(_SQUARES)}
@@ -66,20 +66,19 @@ def _taking_part(men: Men, king: int) -> Optional[set[int]]:
     on it and none.
     """
     occupied = sum([1 << place for place in men if place != king])
-    guards: dict[int, int] = {}
+    guards: dict[int, list[int]] = {}
     for place, letter in men.items():
-        if letter in _WHITE:
+        if letter.isupper():
             for target, between in _guarded(letter, place, king):
                 if not between & occupied:
-                    if target in guards:
-                        return None
-                    guards[target] = place
+                    guards.setdefault(target, []).append(place)
     taking_part: set[int] = set()
     for place in _field(king):
-        is_blocked = place in men and place != king and men[place] not in _WHITE
-        if is_blocked is (place in guards):
+        own = guards.get(place, [])
+        is_blocked = place != king and men.get(place, "").islower()
+        if len(own) != (0 if is_blocked else 1):
             return None
-        taking_part.add(guards.get(place, place))
+        taking_part.add(place if is_blocked else own[0])
     return taking_part
 
 
@@ -93,25 +92,12 @@ def _field(king: int) -> list[int]:
 @lru_cache(maxsize=None)
 def _guarded(letter: str, origin: int, king: int) -> list[tuple[int, int]]:
     """Returns the places of a king's field that a man may guard, and the places between as bits."""
-    reached = _reached(letter, origin)
-    return [(place, reached[place]) for place in _field(king) if place in reached]
-
-
-@lru_cache(maxsize=None)
-def _reached(letter: str, origin: int) -> dict[int, int]:
-    """Returns the places that a man attacks on an empty board, and the places between as bits."""
     man, begin = Man.of_letter(letter), _SQUARES[origin]
-    up = -1 if man == Man(Colour.BLACK, Kind.PAWN) else 1
-    found: dict[int, int] = {}
-    for file, rank in STEPS[man.kind]:
-        between = 0
-        square = Square(begin.file + file, begin.rank + up * rank)
-        while square in _PLACES:
-            found[_PLACES[square]] = between
-            if GAITS[man.kind] is not Gait.RIDER:
-                break
-            between |= 1 << _PLACES[square]
-            square = Square(square.file + file, square.rank + up * rank)
+    found: list[tuple[int, int]] = []
+    for place in _field(king):
+        between = squares_between(man, begin, _SQUARES[place])
+        if between is not None:
+            found.append((place, sum(1 << _PLACES[square] for square in between)))
     return found
 
 
