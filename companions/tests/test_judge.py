@@ -341,7 +341,7 @@ class Judging(unittest.TestCase):
                 self.assertIn("1.Ra8#!", self.articles()[0].words)
 
     def test_a_problem_that_only_the_program_of_tries_calls_faulty(self) -> None:
-        fault = "problem 1\\nline 3: fault 10: bad stipulation\\n\\n"
+        fault = "problem 1\\nline 3: fault 8: bad stipulation\\n\\n"
         lies = self.tries_until_well("lies", f"cat > /dev/null\nprintf '{fault}'\nexit 1\n")
         outcome = self.judged("--pops-tries", lies)
         self.assertEqual(outcome.status, 6)

@@ -959,7 +959,7 @@ class Command(Case):
         self.assertIn("pops-tries ended with status 4", outcome.error)
 
     def test_a_problem_that_only_the_text_of_tries_calls_faulty(self) -> None:
-        fault = "problem 1\nline 3: fault 10: bad stipulation\n\n"
+        fault = "problem 1\nline 3: fault 8: bad stipulation\n\n"
         self.tries.write_text(f"#!/bin/sh\ncat > /dev/null\nprintf '{fault}'\nexit 1\n")
         outcome = self.made(OF_THE_MANUAL, "--pops-tries", str(self.tries))
         self.assertEqual((outcome.status, outcome.output), (3, b""))

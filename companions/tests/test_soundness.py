@@ -118,7 +118,7 @@ class Duals(unittest.TestCase):
         tree = "1.e6-e7\n  1...Kh8-g8\n    2.e7-e8=Q#\n    2.e7-e8=R#\n"
         (dual,) = tree_duals(nodes_of(item("#2", tree)))
         self.assertTrue(dual.by_promotion)
-        (other,) = tree_duals(nodes_of(item("#2", tree.replace("e8=R", "d8=R"))))
+        (other,) = tree_duals(nodes_of(item("#2", tree.replace("e7-e8=R", "e7*d8=R"))))
         self.assertFalse(other.by_promotion)
 
     def test_help_lines_that_part_late(self) -> None:

@@ -7,7 +7,7 @@ from pops_companions.chess.men import GAITS, STEPS, Colour, Gait, Kind, Man, Squ
 Step = tuple[int, int]
 Men = dict[Square, Man]
 
-# What `_between` found: it is looked for often, and differs in few cases.
+# What `squares_between` found: it is looked for often, and differs in few cases.
 _BETWEEN: dict[tuple[Man, Square, Square], Optional[tuple[Square, ...]]] = {}
 
 
@@ -35,7 +35,7 @@ def _reaches(men: Men, origin: Square, target: Square) -> bool:
     man = men[origin]
     key = (man, origin, target)
     if key not in _BETWEEN:
-        _BETWEEN[key] = _between(man, origin, target)
+        _BETWEEN[key] = squares_between(man, origin, target)
     between = _BETWEEN[key]
     if between is None:
         return False
@@ -46,7 +46,7 @@ def _reaches(men: Men, origin: Square, target: Square) -> bool:
     return not any(square in men for square in between)
 
 
-def _between(man: Man, origin: Square, target: Square) -> Optional[tuple[Square, ...]]:
+def squares_between(man: Man, origin: Square, target: Square) -> Optional[tuple[Square, ...]]:
     """Returns the squares between two that a man's move joins; None for all others."""
     step = (target.file - origin.file, target.rank - origin.rank)
     if man.kind is Kind.PAWN and man.colour is Colour.BLACK:
