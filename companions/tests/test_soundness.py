@@ -475,7 +475,7 @@ class Collection(unittest.TestCase):
 
     def test_csv_has_nothing_that_is_computed_after_a_tab(self) -> None:
         """For readers that part cells at tabs, or lines at other signs, and know no quotes in them."""
-        titles = ("a\t=1+1", "\t=1", "a\t\t@b\t+1", "a\r-1", "a;\t=1", 'a\t"=1', "a\tb=1")
+        titles = ("a\t=1+1", "b\t=1", "a\t\t@b\t+1", "a\r-1", "a;\t=1", 'a\t"=1', "a\tb=1")
         items = (f"problem {it}\ntitle: {title}\nauthor: {title}\n#1\nsound\n\n" for it, title in enumerate(titles, 1))
         said = run_here.companion("pops-test", "--csv", text="".join(items).encode()).output.decode()
         for cell in re.split("[;\t\r\n]", said):

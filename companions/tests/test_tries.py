@@ -300,6 +300,29 @@ class Testing(unittest.TestCase):
                 tracemalloc.stop()
         self.assertLess(most[200], most[10] + 10 * len(text))
 
+    def test_other_keys_and_numbers_twice(self) -> None:
+        """A text of tries of another solution is refused: duals would be counted from it alone."""
+        text = b"BeginProblem\nTitle A mate\nPieces White Kd6 Qh8 Rc7 Black Ke1 Pa6\nStipulation #2\n"
+        text += b"Option Variation\nEndProblem\n"
+        tries = plain_tries(text)
+        self.assertEqual(self.judged(text, tries).status, 0)
+        key = tries[tries.index(b"1.Qh8-b2!") : tries.index(b"solutions: 1")]
+        for other in (
+            tries.replace(b"1.Qh8-b2!", b"1.Qh8-a1!"),
+            tries.replace(key, b"").replace(b"solutions: 1", b"solutions: 0"),
+            tries.replace(b"solutions: 1", b"solutions: 1, stopped"),
+            tries.replace(b"A mate", b"Another mate"),
+            tries.replace(b"title: A mate\n", b""),
+        ):
+            with self.subTest(other):
+                self.assertNotEqual(other, tries)
+                outcome = self.judged(text, other)
+                self.assertEqual((outcome.status, outcome.output), (3, b""))
+                self.assertIn("the text of tries has another problem 1 than the report", outcome.error)
+        outcome = self.judged(text, tries + tries)
+        self.assertEqual((outcome.status, outcome.output), (3, b""))
+        self.assertIn("some.tries has problem 1 twice", outcome.error)
+
     def test_texts_that_dont_fit(self) -> None:
         other = plain_tries(SEVERAL_THREATS).replace(b"7 .....r..", b"7 p....r..")
         outcome = self.judged(SEVERAL_THREATS, other)

@@ -157,6 +157,7 @@ class ChangedError(CommandError):
     def __init__(self, program: str, journal: Journal):
         to_do = f"the reports in {journal.path} may be of two programs, remove it"
         super().__init__(Status.UNFINISHED, f"{program} was changed during the run: {to_do}")
+        self.program = program
 
 
 def try_out(targets: Sequence[Target]) -> None:

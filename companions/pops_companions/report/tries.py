@@ -65,6 +65,21 @@ class TriesItem:
 
 
 TriesReportItem = Union[items.FaultyItem, TriesItem]
+
+
+def is_of_item(tries: TriesItem, item: items.SoundItem) -> bool:
+    """Returns whether a text of tries has the title, the author and the keys that the report of the problem
+    has, the keys where both show all of them.
+    """
+    if (tries.title, tries.author) != (item.title, item.author):
+        return False
+    play = item.phase(items.PhaseKind.PLAY)
+    if play is None or play.total is None or tries.total is None:
+        return True
+    keys = tuple([key.text[:-1] for key in tries.keys])
+    return keys == play.texts and tries.total == play.total
+
+
 AnyTriesItem = Union[items.FaultyItem, TriesItem, items.HeadlessItem]
 
 
