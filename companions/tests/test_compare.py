@@ -23,9 +23,9 @@ def board(*men: tuple[str, str]) -> str:
     return "".join(f"{rank} {''.join(row)}\n" for rank, row in rows.items()) + "  abcdefgh\n"
 
 
-ROOK_A = board(("K", "g6"), ("R", "a1"), ("k", "g8"))
-ROOK_B = board(("K", "g6"), ("R", "b1"), ("k", "g8"))
-ROOK_C = board(("K", "g6"), ("R", "c1"), ("k", "g8"))
+KNIGHT_A = board(("K", "g6"), ("R", "a1"), ("S", "b3"), ("k", "g8"))
+KNIGHT_B = board(("K", "g6"), ("R", "a1"), ("S", "c3"), ("k", "g8"))
+KNIGHT_C = board(("K", "g6"), ("R", "a1"), ("S", "d3"), ("k", "g8"))
 
 
 def problem(title: str = "", where: str = "", play: str = MATE, stipulation: str = "#1") -> str:
@@ -56,7 +56,7 @@ def numbers(old: list[str], new: list[str]) -> list[tuple[Optional[int], Optiona
 
 
 class Matching(unittest.TestCase):
-    A, B, C = problem("A", ROOK_A), problem("B", ROOK_B), problem("C", ROOK_C)
+    A, B, C = problem("A", KNIGHT_A), problem("B", KNIGHT_B), problem("C", KNIGHT_C)
     FAULTY = FAULT.format(line=2)
 
     def test_the_same_problems(self) -> None:
@@ -80,11 +80,11 @@ class Matching(unittest.TestCase):
         )
 
     def test_a_title_stays_where_the_board_changes_and_the_board_where_the_title_does(self) -> None:
-        moved = problem("A", ROOK_C)
+        moved = problem("A", KNIGHT_C)
         self.assertEqual(numbers([self.A, self.B], [self.B, moved]), [(2, 1), (1, 2)])
-        renamed = problem("New", ROOK_A)
+        renamed = problem("New", KNIGHT_A)
         self.assertEqual(numbers([self.A, self.B], [self.B, renamed]), [(2, 1), (1, 2)])
-        other = problem("A", ROOK_A, stipulation="#2", play="")
+        other = problem("A", KNIGHT_A, stipulation="#2", play="")
         self.assertEqual(numbers([self.A, self.B], [self.B, other]), [(2, 1), (1, 2)])
 
     def test_another_problem_in_the_same_place(self) -> None:
@@ -95,7 +95,7 @@ class Matching(unittest.TestCase):
         changed = problem(play="1.Rb1-b8#\n", stipulation="#2")
         self.assertEqual(numbers([self.A, problem()], [self.B, self.A, changed]),
                          [(None, 1), (1, 2), (2, 3)])  # fmt: skip
-        untitled, moved = problem("", ROOK_A), problem("", ROOK_B)
+        untitled, moved = problem("", KNIGHT_A), problem("", KNIGHT_B)
         self.assertEqual(numbers([untitled], [moved]), [(1, 1)])
 
     def test_faulty_problems_are_found_by_their_neighbours(self) -> None:
@@ -115,7 +115,7 @@ class Matching(unittest.TestCase):
 
     def test_each_problem_is_told_once(self) -> None:
         old = [self.A, self.FAULTY, self.B, problem(), self.A, self.C]
-        new = [self.C, problem(), self.A, self.FAULTY, self.FAULTY, problem("", ROOK_B)]
+        new = [self.C, problem(), self.A, self.FAULTY, self.FAULTY, problem("", KNIGHT_B)]
         pairs = numbers(old, new)
         self.assertEqual([one for _, one in pairs if one], list(range(1, 7)))
         self.assertEqual(sorted(one for one, _ in pairs if one), list(range(1, 7)))
@@ -141,8 +141,8 @@ class Differences(unittest.TestCase):
 
     def test_what_does_not_count(self) -> None:
         """A number, a fault's line, a board that one report alone shows."""
-        old = report(problem("A", ROOK_A), FAULT.format(line=7), problem("B"))
-        new = report(problem("A"), FAULT.format(line=12), problem("B", ROOK_B))
+        old = report(problem("A", KNIGHT_A), FAULT.format(line=7), problem("B"))
+        new = report(problem("A"), FAULT.format(line=12), problem("B", KNIGHT_B))
         outcome = self.compared(old, new)
         self.assertEqual(outcome, (0, b"3 problems: nothing differs\n", ""))
         old, new = report(problem("A"), problem("B")), report(problem("B"), problem("A"))
@@ -252,13 +252,13 @@ class Differences(unittest.TestCase):
 
     def test_the_problem_itself(self) -> None:
         self.check(
-            [problem("A\nauthor: X", ROOK_A), problem("B", ROOK_A)],
-            [problem("A", ROOK_B), problem("B", ROOK_A, stipulation="#1 Circe")],
+            [problem("A\nauthor: X", KNIGHT_A), problem("B", KNIGHT_A)],
+            [problem("A", KNIGHT_B), problem("B", KNIGHT_A, stipulation="#1 Circe")],
             "problem 1: #1, A",
             "  author: X -> none",
             "  board",
-            "    - White Ra1",
-            "    + White Rb1",
+            "    - White Sb3",
+            "    + White Sc3",
             "problem 2: #1 Circe, B",
             "  stipulation: #1 -> #1 Circe",
             "2 problems: 2 differ",
@@ -266,8 +266,8 @@ class Differences(unittest.TestCase):
 
     def test_problems_gained_and_lost(self) -> None:
         self.check(
-            [problem("A", ROOK_A), problem("B", ROOK_B)],
-            [problem("C", ROOK_C), problem("A", ROOK_A, play="")],
+            [problem("A", KNIGHT_A), problem("B", KNIGHT_B)],
+            [problem("C", KNIGHT_C), problem("A", KNIGHT_A, play="")],
             "+ problem 1: #1, C",
             "problem 1, now 2: #1, A",
             "  play",
@@ -293,7 +293,7 @@ class Memory(unittest.TestCase):
 
     def peak(self, number: int) -> int:
         """The most memory of a comparison of this many problems with themselves in another order."""
-        men = [problem(f"Number {it}", ROOK_A) for it in range(number)]
+        men = [problem(f"Number {it}", KNIGHT_A) for it in range(number)]
         with tempfile.TemporaryDirectory() as room:
             old, new = Path(room) / "old", Path(room) / "new"
             old.write_bytes(report(*men))

@@ -490,12 +490,12 @@ twins: {b: Move a1 b1}
 
     def test_signs_of_moves(self) -> None:
         report = (
-            b"problem 1\nh#1.5\nset\nsolutions: 0\nplay\n"
-            b"1...f7-f8=Q+ 2.Kg8*h8[+wRh1]= 0-0#\nsolutions: 1\n\n"
+            b"problem 1\nh#1.5 Circe\nset\nsolutions: 0\nplay\n"
+            b"1...f7-f8=Q+ 2.Kg8*h8[+wRa1] 0-0-0#\nsolutions: 1\n\n"
         )
-        (item,) = read_report(iter(report.replace(b"h8[+wRh1]=", b"h8[+wRh1]").splitlines(True)))
+        (item,) = read_report(iter(report.splitlines(True)))
         assert isinstance(item, SoundItem)
-        self.assertEqual(solution_lines(item), ["1...f7-f8=Q + 2.Kg8*h8[+wRh1] 0-0 #"])
+        self.assertEqual(solution_lines(item), ["1...f7-f8=Q + 2.Kg8*h8[+wRa1] 0-0-0 #"])
 
     def test_solutions_of_another_report(self) -> None:
         with tempfile.TemporaryDirectory() as room:

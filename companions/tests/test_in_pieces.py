@@ -14,8 +14,10 @@ from pops_companions.review import in_pieces, judging, like_problems
 from pops_companions.show import twins
 from tests import run_here, support
 
-BOARD = b"".join(b"%d ........\n" % rank for rank in range(8, 0, -1)) + b"  abcdefgh\n"
+RANKS = b".......k ........ ........ ........ ........ ........ ........ RR......".split()
+BOARD = b"".join(b"%d %s\n" % (8 - place, rank) for place, rank in enumerate(RANKS)) + b"  abcdefgh\n"
 KEY = b"#2\nplay\n1.Ra1-a8\n  1...Kh8-h7\n    2.Ra8-a7#\n    2.Ra8-h8#\nsolutions: 1\n\n"
+SELF = b"s#1\nplay\n1.Ra1-a8\n  1...Kh8-h7#\nsolutions: 1\n\n"
 BODIES = [
     BOARD + KEY,
     b"title: Alone\n" + BOARD + b"#1\nplay\n1.Ra1-a8#\n1.Rb1-b8#\nsolutions: 2\n\n",
@@ -26,10 +28,10 @@ BODIES = [
     b"line 7: fault 2: unknown or misplaced word\n\n",
     b"title: \xff\n#1\nplay\nsolutions: 0\n\n",
     b"h#1\nset\nnot possible\nplay\n1.Ka1-a2 e5*d6 ep.#\n1.Ka1-a2 Qd1-a4#\nsolutions: 2\n\n",
-    b"title: \n#1\nsound\n\n",
+    b"title: T\n#1\nsound\n\n",
     b"title: Twins a)\n" + KEY,
     b"#3 Circe\nplay\n1.Ra1-a8\n  1...Kh8-h7\n    2.Ra8-a7\n      2...Kh7-h8\n        3.Ra7-a8#\nsolutions: 1, stopped\n\n",
-    b"s#1\nset\n1...Kh8-h7\nsolutions: 1\nplay\nsolutions: 0\nunfinished: stopped after 60 s\n\n",
+    b"s#1\nset\n1...Kh8-h7#\nsolutions: 1\nplay\nsolutions: 0\nunfinished: stopped after 60 s\n\n",
 ]
 WORDS: list[list[str]] = [[], ["--all"], ["--csv"], ["--apart"], ["--solutions", "2"]]
 
@@ -163,8 +165,8 @@ class InPieces(support.InRoom):
     def test_problems_that_show_the_same(self) -> None:
         """They share what they show, and judgements; else nothing differs."""
         names = (b"", b"title: One\n", b"title: \xff\nauthor: \xc3\xa4\n", b"title: Some a)\n", b"title: duplex\n", b"author: a\x01\n")
-        boards = (BOARD, BOARD.replace(b"8 ...", b"8 QQQ"), BOARD.replace(b"8 ...", b"8 NN."), BOARD.replace(b"5 ....", b"5 nS.k"), b"")
-        shown = [KEY, KEY.replace(b"#2", b"s#2"), KEY.replace(b"#2", b"s#2 Circe"), KEY.replace(b", s", b"\nx"), BODIES[8], BODIES[12]]
+        boards = (BOARD, BOARD.replace(b"4 ...", b"4 .QQ"), BOARD.replace(b"4 ...", b"4 .NN"), BOARD.replace(b"5 ....", b"5 .nSq"), b"")
+        shown = [KEY, KEY.replace(b"#2", b"#2 Circe"), SELF, SELF.replace(b"#1", b"#1 Circe"), BODIES[1], BODIES[12]]
         bodies = [b"".join(parts) for parts in product(names, boards, shown)] * 3
         bodies[100:100] = [BODIES[6], BODIES[9]]
         text = b"".join(b"problem %d\n%s" % (number + 1, body) for number, body in enumerate(bodies))

@@ -317,13 +317,13 @@ class Judging(support.InRoom):
                 self.assertIn("1.Ra8#!", self.articles()[0].words)
 
     def test_tries_of_another_problem_are_told_and_arent_kept(self) -> None:
-        men = [b".......k", *[b"........"] * 7]
+        men = [b".......k", *[b"........"] * 6, b"R......."]
         board = b"".join(b"%d %s\\n" % (8 - place, rank) for place, rank in enumerate(men)) + b"  abcdefgh\\n"
         for other in (
             TRIES_OF_ONE.replace("#1", "#2"),
             TRIES_OF_ONE.replace("#1", board.decode() + "#1"),
             TRIES_OF_ONE.replace("Ra1", "Ra2"),
-            TRIES_OF_ONE.replace("Ra1-a8#", "0-0"),
+            TRIES_OF_ONE.replace("Ra1-a8#", "0-0#"),
         ):
             with self.subTest(other):
                 lies = self.tries_until_well("lies", f"cat > /dev/null\nprintf '{other}'\n")
@@ -335,8 +335,24 @@ class Judging(support.InRoom):
                 self.assertEqual((again.status, again.error), (0, ""))
                 self.assertIn("1.Ra8#!", self.articles()[0].words)
 
+    def test_tries_with_other_keys_are_left_out(self) -> None:
+        for other in (
+            TRIES_OF_ONE.replace("Ra1-a8#", "Ra1-b1#"),
+            TRIES_OF_ONE.replace("1.Ra1-a8#!\\n", "").replace("solutions: 1", "solutions: 0"),
+            TRIES_OF_ONE.replace("A mate", "Another mate"),
+        ):
+            with self.subTest(other):
+                self.assertNotEqual(other, TRIES_OF_ONE)
+                lies = self.tries_until_well("lies", f"cat > /dev/null\nprintf '{other}'\n")
+                outcome = self.judged("--pops-tries", lies)
+                self.assertEqual(outcome.status, 6)
+                self.assertIn("problem 1: pops-tries shows other keys than pops: its tries", outcome.error)
+                self.make_well()
+                again = self.judged("--resume", "--pops-tries", lies)
+                self.assertEqual((again.status, again.error), (0, ""))
+
     def test_a_problem_that_only_the_program_of_tries_calls_faulty(self) -> None:
-        fault = "problem 1\\nline 3: fault 10: bad stipulation\\n\\n"
+        fault = "problem 1\\nline 3: fault 8: bad stipulation\\n\\n"
         lies = self.tries_until_well("lies", f"cat > /dev/null\nprintf '{fault}'\nexit 1\n")
         outcome = self.judged("--pops-tries", lies)
         self.assertEqual(outcome.status, 6)

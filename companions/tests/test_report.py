@@ -16,7 +16,7 @@ from pops_companions.report.items import (
     named_items,
 )
 from pops_companions.report.moves import Castling, Mark
-from pops_companions.report.reader import ReportError, read_report
+from pops_companions.report.reader import Allowed, ReportError, ReportReader, read_events, read_report
 from tests import support
 
 
@@ -95,7 +95,7 @@ class Items(unittest.TestCase):
         )
 
     def test_like_ranks_of_boards_are_kept_once(self) -> None:
-        board = "".join(f"{rank} .....K..\n" for rank in range(8, 0, -1)) + "  abcdefgh\n"
+        board = "".join(f"{rank} .....Q..\n" for rank in range(8, 0, -1)) + "  abcdefgh\n"
         items = read("".join(f"problem {number}\n{board}#{number}\nsound\n\n" for number in (1, 2)))
         ranks = [rank for it in items if isinstance(it, SoundItem) and it.board for rank in it.board.ranks]
         self.assertEqual((len(ranks), len(set(map(id, ranks)))), (16, 1))
@@ -118,7 +118,7 @@ class Items(unittest.TestCase):
 
 class Moves(unittest.TestCase):
     def test_en_passant_with_rebirth(self) -> None:
-        (node,) = nodes_of("#1", "1.e5*d6 ep.[+bPd7]#")
+        (node,) = nodes_of("#1 Circe", "1.e5*d6 ep.[+bPd7]#")
         move = node.move
         self.assertEqual((move.kind, move.origin.name, move.arrival.name), (Kind.PAWN, "e5", "d6"))
         self.assertTrue(move.capture and move.en_passant)
@@ -128,21 +128,21 @@ class Moves(unittest.TestCase):
         self.assertIs(move.mark, Mark.MATE)
 
     def test_promotion_and_stalemate(self) -> None:
-        nodes = nodes_of("=1", "1.f7-f8=Q=", "1.Rb2-b7=", "1.g7*h8=N", count=3)
+        nodes = nodes_of("=1", "1.f7-f8=Q=", "1.Rb2-b7=", "1.g7*h8=N=", count=3)
         promotions = [node.move.promotion for node in nodes]
         self.assertEqual(promotions, [Kind.QUEEN, None, Kind.NIGHTRIDER])
         marks = [node.move.mark for node in nodes]
-        self.assertEqual(marks, [Mark.STALEMATE, Mark.STALEMATE, None])
+        self.assertEqual(marks, [Mark.STALEMATE] * 3)
 
     def test_castling_of_either_side(self) -> None:
-        (line,) = solutions("h#1", "1.0-0-0 0-0+")
+        (line,) = solutions("h#1", "1.0-0-0 0-0#")
         assert isinstance(line, HelpLine)
         black, white = line.moves
         self.assertEqual((black.castling, white.castling), (Castling.LONG, Castling.SHORT))
         self.assertEqual((black.origin.name, black.arrival.name), ("e8", "c8"))
         self.assertEqual((white.origin.name, white.arrival.name), ("e1", "g1"))
         self.assertEqual((black.side, white.side), (Colour.BLACK, Colour.WHITE))
-        self.assertEqual((black.mark, white.mark), (None, Mark.CHECK))
+        self.assertEqual((black.mark, white.mark), (None, Mark.MATE))
 
     def test_numbers_of_help_lines(self) -> None:
         cases = [
@@ -160,21 +160,21 @@ class Moves(unittest.TestCase):
 
     def test_a_move_of_help_lines_is_read_once(self) -> None:
         again, passant = "1.Kh8-g8 Ra1-b1 2.Kg8-h8 Rb1-b8#", "1.e4*d3 ep. Ra1-b1 2.Kg8-h8 Rb1-b8#"
-        lines = [again, passant, again, passant, again.replace("Kg8-h8", "Kg8-f8")]
+        lines = [again, again.replace("Kg8-h8", "Kg8-f8"), passant, passant.replace("b8", "b7")]
         found = solutions("h#2", *lines, count=len(lines))
         self.assertEqual([it.text for it in found], lines)
         moves = [it.moves for it in found if isinstance(it, HelpLine)]
-        self.assertEqual([[it.text for it in line] for line in moves[:2]], [
+        self.assertEqual([[it.text for it in line] for line in moves[::2]], [
             ["Kh8-g8", "Ra1-b1", "Kg8-h8", "Rb1-b8#"],
             ["e4*d3 ep.", "Ra1-b1", "Kg8-h8", "Rb1-b8#"],
         ])
-        for place, move in enumerate(moves[0]):
-            self.assertIs(move, moves[2][place])
-        self.assertEqual(moves[1], moves[3])
+        for place in (0, 1, 3):
+            self.assertIs(moves[0][place], moves[1][place])
+        self.assertEqual(moves[2][:3], moves[3][:3])
 
     def test_known_moves_are_of_their_half_move(self) -> None:
-        play = "play\n1.Kh8-g8 Ra1-b1\n1.Kh8-g8 Ra1-b1\nsolutions: 2\n"
-        other = "set\n1...Ra1-b1\n1...Ra1-b1\nsolutions: 2\n" + play
+        play = "play\n1.Kh8-g8 Ra1-b1#\n1.Kh8-h7 Ra1-b1#\nsolutions: 2\n"
+        other = "set\n1...Ra1-b1#\n1...Ra1-c1#\nsolutions: 2\n" + play
         for report in (f"problem 1\nh#1\n{play}\nproblem 2\nh#1\n{other}\n", f"problem 1\nh#1\n{other}\n"):
             halves = [
                 [move.half for line in phase.solutions if isinstance(line, HelpLine) for move in line.moves]
@@ -186,11 +186,11 @@ class Moves(unittest.TestCase):
 
     def test_tree_of_a_battle(self) -> None:
         first, second = nodes_of(
-            "#3", "1.Ra1-a2", "  1...Kb8-c8", "    2.Ra2-a8#", "  1...Kb8-a8", "1.Ra1-a3", count=2
+            "#3", "1.Ra1-a2", "  1...Kb8-c8", "    2.Ra2-a8#", "  1...Kb8-a8", "    2.Ra2-a3#", "1.Ra1-a3#", count=2
         )
         self.assertEqual([node.move.origin.name for node in first.below], ["b8", "b8"])
         self.assertEqual(first.below[0].below[0].move.half, 3)
-        self.assertEqual([len(node.below) for node in first.below], [1, 0])
+        self.assertEqual([len(node.below) for node in first.below], [1, 1])
         self.assertEqual(second.below, [])
 
 
@@ -210,16 +210,16 @@ class Refusals(unittest.TestCase):
                         list(reading)
 
     def test_changed_reports_are_refused_at_their_line(self) -> None:
-        battle = "problem 1\n#2\nplay\n1.Ra1-a2\n  1...Kh8-g8\nsolutions: 1\n\n"
+        battle = "problem 1\ns#1\nplay\n1.Ra1-a2\n  1...Kh8-g8#\nsolutions: 1\n\n"
         self.assertEqual(len(read(battle)), 1)
         changes = [
             ("problem 1", "problem 0", 1),
             ("problem 1", "problem 01", 1),
             ("problem 1", "problem one", 1),
             ("problem 1", "problem 1 ", 1),
-            ("#2", "r#2", 2),
-            ("#2", "s#2.5", 2),
-            ("#2", "#2 Circe Circe", 2),
+            ("s#1", "r#2", 2),
+            ("s#1", "s#2.5", 2),
+            ("s#1", "s#1 Circe Circe", 2),
             ("play", "Play", 3),
             ("1.Ra1-a2", "2.Ra1-a2", 4),
             ("1.Ra1-a2", "1.Ra1-a9", 4),
@@ -256,6 +256,147 @@ class Refusals(unittest.TestCase):
         ):
             with self.subTest(line), self.assertRaises(ReportError):
                 solutions("h#1", line)
+
+
+# What a report shows after its number, with a man on each square that the lines below need.
+RANKS = ["......k.", "P.......", "......K.", "........", "........", "........", "........", "R..Q...R"]
+BOARD = "".join(f"{8 - place} {rank}\n" for place, rank in enumerate(RANKS)) + "  abcdefgh\n"
+RIGHT = {
+    "#1": ["1.Ra1-b1#", "1.a7-a8=Q#", "1.Rh1-h8#"],
+    "=1": ["1.Ra1-b1="],
+    "#2": ["1.Ra1-b1", "  1...Kg8-h8", "    2.Rh1-h7#", "    2.Rb1-b8#", "  1...Kg8-f8", "    2.Rb1-b8#", "1.Rh1-h8#"],
+    "#3": ["1.Ra1-b1", "1.Rh1-h5", "1.Qd1-d8#"],
+    "s#1": ["1.Ra1-b1", "  1...Kg8-h8#", "  1...Kg8-f8#"],
+    "h#1": ["1.Kg8-h8 Qd1-d8#", "1.Kg8-h8 Ra1-b1#", "1.Kg8-f8 Qd1-d8#"],
+    "h#1.5": ["1...Ra1-a2 2.Kg8-h8 Ra2-b2#", "1...Qd1-d2 2.Kg8-h8 Qd2-d8#"],
+}
+WRONG = [
+    ("#1", "1.Ra1-b1#", "1.Ra1-b1", "no mate"),
+    ("#1", "1.Ra1-b1#", "1.Ra1-b1+", "check only"),
+    ("#1", "1.Ra1-b1#", "1.Ra1-b1=", "stalemate where mate is the goal"),
+    ("=1", "1.Ra1-b1=", "1.Ra1-b1#", "mate where stalemate is the goal"),
+    ("#1", "1.Ra1-b1#", "1.Ra1-c3#", "no move of a rook"),
+    ("#1", "1.Ra1-b1#", "1.Ra1-a8#", "over a pawn"),
+    ("#1", "1.Ra1-b1#", "1.Ra1*b1#", "a capture of nothing"),
+    ("#1", "1.Ra1-b1#", "1.Ra1-a7#", "to an own man"),
+    ("#1", "1.Ra1-b1#", "1.Ra1*a7#", "a capture of an own man"),
+    ("#1", "1.Ra1-b1#", "1.Rb1-b8#", "from an empty square"),
+    ("#1", "1.Ra1-b1#", "1.Qa1-b1#", "another man"),
+    ("#1", "1.Ra1-b1#", "1.ra1-b1#", "a small letter"),
+    ("#1", "1.Ra1-b1#", "1.Kg6-h6=Q#", "a king that promotes"),
+    ("#1", "1.Ra1-b1#", "1.Ra1-b1 ep.#", "a rook en passant"),
+    ("#1", "1.Ra1-b1#", "1.0-0-0#", "castling without a king there"),
+    ("#1", "1.a7-a8=Q#", "1.a7-a8#", "a pawn on the last rank"),
+    ("#1", "1.a7-a8=Q#", "1.a7-a8=K#", "a pawn that becomes king"),
+    ("#1", "1.a7-a8=Q#", "1.Ra1-b1#", "a move twice"),
+    ("#2", "    2.Rb1-b8#", "    2.Rb1-b8", "no mate at the end"),
+    ("#2", "    2.Rb1-b8#", "    2.Ra1-a2#", "a man that left"),
+    ("#2", "    2.Rb1-b8#", "    2.Rh1-h7#", "a continuation twice"),
+    ("#2", "  1...Kg8-f8", "  1...Kg8-h8", "a defence twice"),
+    ("#2", "  1...Kg8-f8", "  1...Kg8-f8=", "a stalemate"),
+    ("#2", "  1...Kg8-f8", "  1...Kg8-f8#", "Black mates"),
+    ("#2", "  1...Kg8-f8\n    2.Rb1-b8#", "  1...Kg8-f8", "a defence without a continuation"),
+    ("#2", "1.Rh1-h8#", "1.Rh1-h8", "a key without defences"),
+    ("#2", "1.Rh1-h8#", "1.Rh1-h8#\n  1...Kg8-h8", "a move below a mate"),
+    ("#3", "1.Rh1-h5", "1.Rh1-h5\n  1...Kg8-h8\n    2.Rb1-b8#", "what is below one key alone"),
+    ("s#1", "1.Ra1-b1", "1.Ra1-b1#", "White mates in a selfmate"),
+    ("s#1", "  1...Kg8-f8#", "  1...Kg8-f8", "no mate of White"),
+    ("s#1", "  1...Kg8-f8#", "  1...Kg8-e8#", "no move of a king"),
+    ("h#1", "1.Kg8-h8 Ra1-b1#", "1.Kg8-h8 Ra1-b1", "no mate"),
+    ("h#1", "1.Kg8-h8 Ra1-b1#", "1.Kg8-h8# Ra1-b1#", "a mate in the middle"),
+    ("h#1", "1.Kg8-h8 Ra1-b1#", "1.Kg8-h8= Ra1-b1#", "a stalemate in the middle"),
+    ("h#1", "1.Kg8-h8 Ra1-b1#", "1.Kg8-h8 Qd1-d8#", "a line twice"),
+    ("h#1", "1.Kg8-h8 Ra1-b1#", "1.Kg8-h8 Ra2-a3#", "a man that isn't there"),
+    ("h#1", "1.Kg8-h8 Ra1-b1#", "1.Ka8-b8 Ra1-b1#", "a king that isn't there"),
+    ("h#1", "1.Kg8-f8 Qd1-d8#", "1.Kg8-f8 Qd1-d8#\n1.Kg8-h8 Qd1-a4#", "a first move again"),
+    ("h#1.5", "2.Kg8-h8 Ra2-b2#", "2.Kg8-h8 Ra1-b1#", "a man that left"),
+]
+
+
+class Strictness(unittest.TestCase):
+    """What pops never writes is refused with its line, by both ways of reading, also after like problems."""
+
+    def text(self, asked: str, lines: str, board: str = BOARD) -> str:
+        count = sum(line[0] != " " for line in lines.split("\n"))
+        return f"{board}{asked}\nplay\n{lines}\nsolutions: {count}\n\n"
+
+    def refused(self, text: str) -> int:
+        """The line that both ways of reading refuse."""
+        readings = (read_report([text.encode()]), read_events(ReportReader(Allowed.UNFINISHED), [text.encode()]))
+        found = []
+        for reading in readings:
+            with self.assertRaises(ReportError) as refused:
+                list(reading)
+            found.append(refused.exception.line)
+        self.assertEqual(found[0], found[1])
+        return found[0]
+
+    def test_what_no_problem_shows(self) -> None:
+        for asked, old, new, what in WRONG:
+            right = "\n".join(RIGHT[asked])
+            self.assertIn(old, right)
+            wrong = right.replace(old, new, 1)
+            like = f"problem 1\n{self.text(asked, right)}problem 2\n{self.text(asked, right)}"
+            with self.subTest(what):
+                self.assertEqual(len(read(like)), 2)
+                for before in ("", like):
+                    line = self.refused(f"{before}problem 3\n{self.text(asked, wrong)}")
+                    begin = before.count("\n") + 12
+                    self.assertIn(line, range(begin, begin + wrong.count("\n") + 3))
+
+    def test_the_board_of_a_like_problem(self) -> None:
+        """Problems that show the same share it, but not where the men of a board can't play it."""
+        for asked, lines in RIGHT.items():
+            like = self.text(asked, "\n".join(lines))
+            for other in (like.replace("1 R..Q...R", "1 ...Q...."), like.replace("......k.", ".....k..", 1)):
+                before = "".join(f"problem {number}\n{like}" for number in range(1, 5))
+                self.assertEqual(len(read(before + f"problem 5\n{like.partition('abcdefgh')[2][1:]}")), 5)
+                if "Kg8" in like or "...Q...." in other:
+                    with self.subTest(other):
+                        self.assertGreater(self.refused(f"{before}problem 5\n{other}"), before.count("\n"))
+
+    def test_rebirths(self) -> None:
+        board = BOARD.replace("2 ........", "2 .r......").replace("1 R..Q...R", "1 .R......").replace("7 P", "7 .")
+        right = self.text("#1 Circe", "1.Rb1*b2[+brh8]#".replace("br", "bR"), board)
+        self.assertEqual(len(read(f"problem 1\n{right}")), 1)
+        for old, new in (
+            (" Circe", ""),
+            (" Circe", " Madrasi"),
+            ("bRh8", "bRa8"),
+            ("bRh8", "wRh1"),
+            ("bRh8", "bQd8"),
+            ("Rb1*b2", "Rb1-b2"),
+            ("......k.", "......kb"),
+        ):
+            with self.subTest(new):
+                self.refused("problem 1\n" + right.replace(old, new, 1))
+
+    def test_heads_totals_and_faults(self) -> None:
+        right = f"problem 1\ntitle: A\nauthor: B\n{self.text('#1', RIGHT['#1'][0])}"
+        self.assertEqual(len(read(right)), 1)
+        for old, new in (
+            ("title: A", "title: "),
+            ("title: A", "title: A "),
+            ("author: B", "author: " + "x" * 201),
+            ("8 ......k.", "8 .....Pk."),
+            ("1 R..Q...R", "1 R..Q..pR"),
+            ("8 ......k.", "8 ......kk"),
+            ("#1\n", "#17\n"),
+            ("#1\n", "#0\n"),
+            ("#1\n", "h#16.5\n"),
+            ("play\n1.Ra1-b1#\nsolutions: 1", "play\nnot possible"),
+            ("1.Ra1-b1#\nsolutions: 1", "solutions: 0, stopped"),
+        ):
+            with self.subTest(new):
+                self.assertIn(old, right)
+                self.refused(right.replace(old, new, 1))
+        for wrong in ("fault 11: no man", "fault 12: no men"):
+            self.refused(f"problem 1\nline 3: {wrong}\n\n")
+
+    def test_set_play_without_its_continuations(self) -> None:
+        for lines in ("1...Kg8-h8\n", "1...Kg8-h8\n1...Kg8-f8\n  2.Rh1-h8#\n"):
+            count = lines.count("\n1") + 1
+            self.refused(f"problem 1\n#2\nset\n{lines}solutions: {count}\nplay\nsolutions: 0\n\n")
 
 
 class Stipulations(unittest.TestCase):

@@ -270,13 +270,13 @@ class Lines(unittest.TestCase):
     def test_selfmates_set_play_and_stopped_play(self) -> None:
         play = (
             "set\n1...Rb8-b1#\nsolutions: 1\nplay\n1.Qa1-a2\n  1...Rb8-b1#\n"
-            "  1...Rb8-c8\n    2.Qa2-g8+\nsolutions: 1, stopped\n"
+            "  1...Rb8-c8\n    2.Qa2-g8+\n      2...Rc8*g8#\nsolutions: 1, stopped\n"
         )
         self.assertEqual(
             lines("Kh1 Qa1 Ph2 Pg2 rb8 kh8", "s#2", play),
             [
                 *("Set play:", "1...Rb1#", "Solution:", "1.Qa2!"),
-                *("  1...Rb1#", "  1...Rc8 2.Qg8+", "(and perhaps more)"),
+                *("  1...Rb1#", "  1...Rc8 2.Qg8+ Rxg8#", "(and perhaps more)"),
             ],
         )
         self.assertEqual(
@@ -825,16 +825,16 @@ class Command(Case):
         self.assertIn("given.report is no report of pops: line 1: ", refused.error)
 
     def test_texts_with_moves_of_men_that_are_elsewhere(self) -> None:
-        text = b"BeginProblem Pieces White Kg6 Ra1 Black Kh8 Stipulation %s Option SetPlay Variation EndProblem"
+        text = b"BeginProblem Pieces White Kg6 Ra1 Black Kh8 Stipulation %s Option SetPlay Variation NoBoard EndProblem"
         report, tries, empty = self.room / "given.report", self.room / "given.tries", self.room / "empty"
         empty.touch()
         cases = (
             (b"h#1", b"1.Kh8-g8", b"1.Kh7-g8", "report"),
-            (b"h#1", b"g8 Ra1-a8", b"g8 Rb1-a8", "report"),
+            (b"h#1", b"g8 Ra1-a8", b"g8 Rb8-a8", "report"),
             (b"h#1", b"1...Ra1", b"1...Ra2", "report"),
-            (b"#2", b"  2.Ra1-a8", b"  2.Rb1-a8", "report"),
-            (b"#2", b"1.Ra1-b1", b"1.Ra2-b1", "text of tries"),
-            (b"#2", b"  2.Ra1-a8", b"  2.Rb1-a8", "text of tries"),
+            (b"#2", b"  2.Ra1-a8", b"  2.Rb8-a8", "report"),
+            (b"#2", b"1.Ra1-b1", b"1.Rb2-b1", "text of tries"),
+            (b"#2", b"  2.Ra1-a8", b"  2.Rb8-a8", "text of tries"),
         )
         for asked, move, other, name in cases:
             with self.subTest(move, name=name):
@@ -968,7 +968,7 @@ class Command(Case):
         self.assertIn("pops-tries ended with status 4", outcome.error)
 
     def test_a_problem_that_only_the_text_of_tries_calls_faulty(self) -> None:
-        fault = "problem 1\nline 3: fault 10: bad stipulation\n\n"
+        fault = "problem 1\nline 3: fault 8: bad stipulation\n\n"
         self.write_program("plain-tries", f"#!/bin/sh\ncat > /dev/null\nprintf '{fault}'\nexit 1\n")
         outcome = self.made(OF_THE_MANUAL, "--pops-tries", self.tries)
         self.assertEqual((outcome.status, outcome.output), (3, b""))

@@ -118,7 +118,7 @@ class Duals(unittest.TestCase):
         tree = "1.e6-e7\n  1...Kh8-g8\n    2.e7-e8=Q#\n    2.e7-e8=R#\n"
         (dual,) = tree_duals(nodes_of(item("#2", tree)))
         self.assertTrue(dual.by_promotion)
-        (other,) = tree_duals(nodes_of(item("#2", tree.replace("e8=R", "d8=R"))))
+        (other,) = tree_duals(nodes_of(item("#2", tree.replace("e7-e8=R", "e7*d8=R"))))
         self.assertFalse(other.by_promotion)
 
     def test_help_lines_that_part_late(self) -> None:
@@ -475,7 +475,7 @@ class Collection(unittest.TestCase):
 
     def test_csv_has_nothing_that_is_computed_after_a_tab(self) -> None:
         """For readers that part cells at tabs, or lines at other signs, and know no quotes in them."""
-        titles = ("a\t=1+1", "\t=1", "a\t\t@b\t+1", "a\r-1", "a;\t=1", 'a\t"=1', "a\tb=1")
+        titles = ("a\t=1+1", "b\t=1", "a\t\t@b\t+1", "a\r-1", "a;\t=1", 'a\t"=1', "a\tb=1")
         items = (f"problem {it}\ntitle: {title}\nauthor: {title}\n#1\nsound\n\n" for it, title in enumerate(titles, 1))
         said = run_here.companion("pops-test", "--csv", text="".join(items).encode()).output.decode()
         for cell in re.split("[;\t\r\n]", said):

@@ -32,7 +32,7 @@ play
     2.Ra2-a8#
   1...h7-h6
     2.Ra2-a8#
-    2.Ra2-b2
+    2.Ra2-h2#
 1.Ra1-a8#!
 solutions: 2, stopped
 tries
@@ -135,6 +135,94 @@ class Reading(unittest.TestCase):
                     read(TEXT[:length])
 
 
+# A text as pops-tries writes it without Variation.
+PLAIN = """\
+problem 1
+#2
+play
+1.Qh8-b2!
+  threat
+    2.Rc7-c1#
+  1...a6-a5
+    2.Rc7-c1#
+1.Qh8-h1#!
+solutions: 2
+tries
+1.Rc7-c2?
+  threat
+    2.Qh8-a1#
+    2.Qh8-h1#
+  but
+    1...Ke1-d1!
+1.Qh8-h2?
+  zugzwang
+  1...a6-a5
+    2.Rc7-c1#
+  but
+    1...Ke1-d1!
+    1...Ke1-f1+!
+1.Rc7-c8?
+  but
+    stalemate
+tries: 3
+
+"""
+WRONG = [
+    ("  threat\n    2.Rc7-c1#\n", "  threat\n", "no threat"),
+    ("    2.Qh8-h1#\n", "    2.Qh8-a1#\n", "a threat twice"),
+    ("    2.Qh8-h1#\n", "    2.Qh8-h1\n", "a threat without mate"),
+    ("    2.Qh8-h1#\n", "    2.Qh8-h1=\n", "a threat of stalemate"),
+    ("  but\n    1...Ke1-d1!\n", "  but\n", "no refutation"),
+    ("    1...Ke1-f1+!", "    1...Ke1-d1!", "a refutation twice"),
+    ("    1...Ke1-f1+!", "    1...a6-a5!", "a refutation that is a defence"),
+    ("    1...Ke1-f1+!", "    1...Ke1-f1=!", "a stalemate that refutes where mate is the goal"),
+    ("    1...Ke1-f1+!", "    1...Ke1-f3!", "no move of a king"),
+    ("  1...a6-a5\n    2.Rc7-c1#\n1", "  1...a6-a5\n1", "a defence without a continuation"),
+    ("  1...a6-a5\n", "  1...a6-a5#\n", "Black mates"),
+    ("  1...a6-a5\n", "  1...a6-a4\n", "no move of a pawn"),
+    ("1.Qh8-b2!\n  threat\n    2.Rc7-c1#\n  1...a6-a5\n    2.Rc7-c1#\n", "1.Qh8-b2!\n", "a key without its threats"),
+    ("1.Qh8-h1#!", "1.Qh8-b2#!", "a key twice"),
+    ("1.Qh8-h1#!", "1.Qh8-h1=!", "a key that stalemates"),
+    ("1.Qh8-h1#!\n", "1.Qh8-h1#!\n  zugzwang\n", "what is below a mate"),
+    ("1.Qh8-h2?", "1.Qh8-h1?", "a key as a try"),
+    ("1.Qh8-h2?", "1.Rc7-c2?", "a try twice"),
+    ("1.Qh8-h2?", "1.Qh8-h2#?", "a try that mates"),
+    ("1.Qh8-h2?", "1.Qh8*h2[+bPh7]?", "a rebirth without Circe"),
+    ("1.Qh8-h2?", "1.Bb7-g1?", "no move of a bishop"),
+    ("#2\nplay", "s#2\nplay", "stalemate in a selfmate"),
+    ("tries: 3", "tries: 03", "a leading zero"),
+    ("solutions: 2", "solutions: 02", "a leading zero of keys"),
+]
+
+
+class Strictness(unittest.TestCase):
+    """What pops-tries never writes is refused."""
+
+    def test_what_no_problem_shows(self) -> None:
+        self.assertEqual(len(read(PLAIN)), 1)
+        for old, new, what in WRONG:
+            with self.subTest(what), self.assertRaises(ReportError):
+                self.assertIn(old, PLAIN)
+                read(PLAIN.replace(old, new, 1))
+
+    def test_men_that_are_not_on_the_board(self) -> None:
+        ranks = [".......Q", "..R.....", "p..K....", "........", "........", "........", "........", "....k..."]
+        board = "".join(f"{8 - place} {rank}\n" for place, rank in enumerate(ranks)) + "  abcdefgh\n"
+        text = PLAIN.replace("#2\n", f"{board}#2\n", 1).replace("1.Qh8-h1#", "1.Kd6-d5#")
+        self.assertEqual(len(read(text)), 1)
+        for old, new in (
+            ("1.Qh8-b2!", "1.Qg7-b2!"),
+            ("1.Qh8-h2?", "1.Rh8-h2?"),
+            ("    2.Qh8-a1#", "    2.Qh7-h1#"),
+            ("  1...a6-a5", "  1...a7-a5"),
+            ("    1...Ke1-d1!", "    1...Ke2-d1!"),
+            ("    2.Rc7-c1#\n  but", "    2.Qh8-h1#\n  but"),
+        ):
+            with self.subTest(new), self.assertRaises(ReportError):
+                self.assertIn(old, text)
+                read(text.replace(old, new, 1))
+
+
 class Testing(support.InRoom):
     """pops-test with a text of tries."""
 
@@ -183,7 +271,7 @@ class Testing(support.InRoom):
         self.assertIn("  duals not shown: they need Variation\n", told)
 
     def test_a_problem_that_only_the_tries_call_faulty(self) -> None:
-        outcome = self.judged(SEVERAL_THREATS, b"problem 1\nline 3: fault 10: bad stipulation\n\n")
+        outcome = self.judged(SEVERAL_THREATS, b"problem 1\nline 3: fault 8: bad stipulation\n\n")
         self.assertEqual((outcome.status, outcome.output), (3, b""))
         self.assertIn("calls problem 1 faulty, and the report sound", outcome.error)
 
@@ -205,8 +293,31 @@ class Testing(support.InRoom):
                 tracemalloc.stop()
         self.assertLess(most[200], most[10] + 10 * len(text))
 
+    def test_other_keys_and_numbers_twice(self) -> None:
+        """A text of tries of another solution is refused: duals would be counted from it alone."""
+        text = b"BeginProblem\nTitle A mate\nPieces White Kd6 Qh8 Rc7 Black Ke1 Pa6\nStipulation #2\n"
+        text += b"Option Variation\nEndProblem\n"
+        tries = plain_tries(text)
+        self.assertEqual(self.judged(text, tries).status, 0)
+        key = tries[tries.index(b"1.Qh8-b2!") : tries.index(b"solutions: 1")]
+        for other in (
+            tries.replace(b"1.Qh8-b2!", b"1.Qh8-a1!"),
+            tries.replace(key, b"").replace(b"solutions: 1", b"solutions: 0"),
+            tries.replace(b"solutions: 1", b"solutions: 1, stopped"),
+            tries.replace(b"A mate", b"Another mate"),
+            tries.replace(b"title: A mate\n", b""),
+        ):
+            with self.subTest(other):
+                self.assertNotEqual(other, tries)
+                outcome = self.judged(text, other)
+                self.assertEqual((outcome.status, outcome.output), (3, b""))
+                self.assertIn("the text of tries has another problem 1 than the report", outcome.error)
+        outcome = self.judged(text, tries + tries)
+        self.assertEqual((outcome.status, outcome.output), (3, b""))
+        self.assertIn("some.tries has problem 1 twice", outcome.error)
+
     def test_texts_that_dont_fit(self) -> None:
-        other = plain_tries(SEVERAL_THREATS).replace(b"7 .....r..", b"7 ........")
+        other = plain_tries(SEVERAL_THREATS).replace(b"7 .....r..", b"7 p....r..")
         outcome = self.judged(SEVERAL_THREATS, other)
         self.assertEqual((outcome.status, outcome.output), (3, b""))
         self.assertIn("the text of tries has another problem 1 than the report", outcome.error)

@@ -37,6 +37,7 @@ class Condition(Enum):
 
 
 _STIPULATION = re.compile(r"([sh]?)([#=])(0|[1-9][0-9]{0,2})(\.5)?", re.ASCII)
+_MOST_MOVES = 16
 _PLAYS = {"": Play.DIRECT, "s": Play.SELF, "h": Play.HELP}
 _LETTERS = {play: letter for letter, play in _PLAYS.items()}
 
@@ -70,6 +71,11 @@ class Stipulation:
         return f"{_LETTERS[self.play]}{self.goal.value}{self.moves}{'.5' if self.half_more else ''}"
 
     @property
+    def is_in_range(self) -> bool:
+        """Whether pops takes its number of moves."""
+        return self.moves < _MOST_MOVES if self.half_more else 0 < self.moves <= _MOST_MOVES
+
+    @property
     def half_moves(self) -> int:
         """The number of half-moves of the longest play."""
         if self.play is Play.DIRECT:
@@ -85,6 +91,11 @@ class Stipulation:
         """Returns who makes a half-move: Black the odd ones of help play, White of battle play."""
         odd = Colour.BLACK if self.play is Play.HELP else Colour.WHITE
         return odd if half % 2 == 1 else odd.opponent
+
+    @property
+    def last_side(self) -> Colour:
+        """The side that reaches the goal."""
+        return Colour.BLACK if self.play is Play.SELF else Colour.WHITE
 
     @property
     def starter(self) -> Colour:

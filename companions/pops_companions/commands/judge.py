@@ -141,6 +141,7 @@ def judge(settings: Settings) -> Status:
     tries = work.tries(text, given)
     work.refuse_changed()
     with work.read():
+        work.leave_out_others(tries)
         beside = Beside(NAME, settings.solutions, str(work.input), short, tries)
         judged = judgements_of(settings, work, beside)
     work.compare(twin.item for one in judged for twin in one.judgements)

@@ -28,7 +28,8 @@ from pops_companions.many.tries_program import TRIES_LOOKED_FOR, TriesProgram, f
 from pops_companions.report.items import AnyItem, Board, FaultyItem, HeadlessItem, SoundItem
 from pops_companions.report.reader import ReportError, read_unfinished_report
 from pops_companions.report.source import warn_of_names
-from pops_companions.report.tries import TriesItem, read_tries
+from pops_companions.report.tries import TriesItem, is_of_item, read_tries
+from pops_companions.review.kept_tries import refuse_numbers_twice
 from pops_companions.sheet.as_html import Layout, as_html
 from pops_companions.sheet.as_latex import as_latex
 from pops_companions.sheet.as_text import as_text
@@ -206,6 +207,7 @@ class Texts:
             found = list(read_tries(io.BytesIO(command.read_all(named))))
         except ReportError as error:
             self._refuse(named or "the output of pops-tries", "no text of pops-tries", error)
+        refuse_numbers_twice(str(named), [item.number for item in found])
         sound = {item.number for item in items if isinstance(item, SoundItem)}
         for item in found:
             if isinstance(item, FaultyItem) and item.number in sound:
@@ -326,6 +328,15 @@ def refuse_others(
             raise CommandError(Status.DEVICE, message)
 
 
+def refuse_other_tries(items: Iterable[AnyItem], tries: dict[int, TriesItem]) -> None:
+    """Raises CommandError where a text of tries isn't of the problems of the report."""
+    for item in items:
+        shown = tries.get(item.number)
+        if isinstance(item, SoundItem) and shown is not None and not is_of_item(shown, item):
+            message = f"the text of tries has another problem {item.number} than the report"
+            raise CommandError(Status.DEVICE, message)
+
+
 def printed(words: list[str], room: str) -> Outcome:
     """Runs Chromium, which leaves nothing outside its folder and is over with all its processes.
 
@@ -375,6 +386,7 @@ def sheet(settings: Settings) -> Status:
     refuse_other_report(items, given, boards)
     tries = texts.tries(items) if any(map(is_battle, items)) else {}
     refuse_others("text of tries", tries.values(), given, boards)
+    refuse_other_tries(items, tries)
     items = with_missing(items, given)
     shown = TriesShown(settings.tries)
     made = Sheet(boards, tries, LANGUAGES[settings.language], settings.encoding, shown)

@@ -2,23 +2,10 @@
 
 from collections.abc import Sequence
 from dataclasses import dataclass, field
-from typing import Any, NamedTuple, Optional, Union
+from typing import Any, Optional, Union
 
 from pops_companions.report import events, items, lines
-from pops_companions.report.moves import PlayedMove
-
-
-class KnownNode(NamedTuple):
-    """What a line says that was read before: its level, the whole line, its move."""
-
-    level: int
-    text: str
-    move: PlayedMove
-
-
-KnownNodes = dict[bytes, KnownNode]
-# More than the half-moves of any stipulation that pops takes.
-MOST_LEVELS = 64
+from pops_companions.report.tree import KnownNodes, TreeState
 
 
 @dataclass
@@ -36,7 +23,7 @@ class GrowingPhase:
 
     def add_node(self, event: events.NodeEvent) -> None:
         text = "  " * event.level + event.text
-        node = items.Node(text, event.move)
+        node = items.Node(text, event.move, [])
         while self._path and self._path[-1][0] >= event.level:
             self._path.pop()
         if self._path:
@@ -46,33 +33,43 @@ class GrowingPhase:
         self._path.append((event.level, node))
         self.lines.append(text)
 
-    def add_known(self, source: Sequence[bytes], start: int, known: KnownNodes, last: int) -> int:
-        """Adds the nodes of the lines from a place on, as far as they are known and go on in levels, of
-        which `last` is the deepest.
-
-        Returns how many they are.
+    def add_known(
+        self, source: Sequence[bytes], start: int, end: int, known: KnownNodes, tree: TreeState
+    ) -> int:
+        """Adds the nodes of the lines between two places, as far as they are known and the tree doesn't
+        refuse them. Returns how many they are.
         """
         below: list[list[Any]] = [self.solutions, *(node.below for _, node in self._path)]
-        deepest = len(self._path)
         texts = self.lines
         before = len(texts)
-        for place in range(start, len(source)):
+        least, most, serial = tree.least, tree.most, tree.serial
+        parents, boards = tree.parents, tree.boards
+        # (what `tree.refusal` and `tree.add` do, without their calls)
+        for place in range(start, end):
             found = known.get(source[place])
-            if found is None or found[0] > deepest or found[0] > last:
+            if found is None:
                 break
-            level, text, move = found
+            level, text, move, next_least, next_most, parent, (mask, value, kept, put) = found
+            above = parents[level]
+            if not least <= level <= most or parent[0] == above:
+                break
+            if boards is not None:
+                board = boards[level]
+                if board & mask != value:
+                    break
+                if next_least:
+                    boards[next_least] = board & kept | put
+            parent[0] = above
+            serial += 1
+            parents[level + 1] = serial
             nodes: list[items.Node] = []
             below[level].append(items.Node(text, move, nodes))
-            deepest = level + 1
-            below[deepest:] = (nodes,)
+            below[level + 1 :] = (nodes,)
             texts.append(text)
-        self._path = [(level, below[level][-1]) for level in range(deepest)]
+            least, most = next_least, next_most
+        tree.least, tree.most, tree.serial = least, most, serial
+        self._path = [(level, nodes[-1]) for level, nodes in enumerate(below[:-1])]
         return len(texts) - before
-
-    @property
-    def depth(self) -> int:
-        """The level that the next node can have at most."""
-        return len(self._path)
 
     @property
     def nodes(self) -> tuple[items.Node, ...]:
@@ -132,11 +129,11 @@ class ItemBuilder:
         self._head = head
 
     def take_known(
-        self, source: Sequence[bytes], start: int, known: KnownNodes, last: int
+        self, source: Sequence[bytes], start: int, end: int, known: KnownNodes, tree: TreeState
     ) -> int:
         """Takes lines of the phase at hand as their events would say them; returns how many."""
         assert self._growing is not None
-        return self._growing.add_known(source, start, known, last)
+        return self._growing.add_known(source, start, end, known, tree)
 
     def take_help_line(self, line: items.HelpLine) -> None:
         """Takes a line of help play of the phase at hand, as its event would say it."""
@@ -144,10 +141,10 @@ class ItemBuilder:
         self._growing.add_line(line)
 
     @property
-    def phase_so_far(self) -> tuple[int, int]:
-        """How many solutions the phase at hand has, and how deep the next node can be."""
+    def solutions_so_far(self) -> int:
+        """How many solutions the phase at hand has."""
         assert self._growing is not None
-        return len(self._growing.solutions), self._growing.depth
+        return len(self._growing.solutions)
 
     def _end_phase(self, total: Optional[items.Total], last_line: str) -> None:
         if self._growing is not None:

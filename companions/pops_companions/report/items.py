@@ -1,7 +1,7 @@
 """What a report says of each problem."""
 
 from collections.abc import Iterable, Iterator, Mapping
-from dataclasses import dataclass, field
+from dataclasses import dataclass
 from enum import Enum
 from typing import Optional, TypeVar, Union
 
@@ -18,10 +18,12 @@ class PhaseKind(Enum):
     PLAY = "play"
 
 
-@dataclass(frozen=True)
+@dataclass
 class HelpLine:
     """A solution of help play: all its moves."""
 
+    # (a report may have many)
+    __slots__ = ("text", "moves")
     text: str
     moves: tuple[PlayedMove, ...]
 
@@ -30,9 +32,11 @@ class HelpLine:
 class Node:
     """A move of battle play with what the report shows below it."""
 
+    # (a report may have many)
+    __slots__ = ("text", "move", "below")
     text: str
     move: PlayedMove
-    below: "list[Node]" = field(default_factory=list)
+    below: "list[Node]"
 
 
 @dataclass(frozen=True)

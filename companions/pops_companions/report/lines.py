@@ -6,15 +6,21 @@ from pops_companions.chess.men import LETTERS
 
 PROBLEM = re.compile(rb"problem ([1-9][0-9]{0,17})")
 FAULT = re.compile(rb"line ([1-9][0-9]{0,17}): fault ([1-9][0-9]?): (.+)")
+# A title or an author: no blank begins or ends it.
+_TEXT = rb"[^\t\v\f\r \n](?:.{0,198}[^\t\v\f\r \n])?"
+TEXT = re.compile(_TEXT)
 TITLE = b"title: "
 AUTHOR = b"author: "
 RANK = re.compile(b"([1-8]) ([%s%s.]{8})" % (LETTERS.encode(), LETTERS.lower().encode()))
+# The first and last rank have no pawns.
+EDGES = (1, 8)
+_LETTERS = {rank: b"KQRBSGNkqrbsgn." if rank in EDGES else b"KQRBSPGNkqrbspgn." for rank in range(1, 9)}
 FILES = b"  abcdefgh"
 # The first lines of an item with a board, up to the line of its files.
 HEAD = re.compile(
     PROBLEM.pattern
-    + rb"\n(?:title: (.*)\n)?(?:author: (.*)\n)?("
-    + b"".join(rb"%d [KQRBSPGNkqrbspgn.]{8}\n" % rank for rank in range(8, 0, -1))
+    + rb"\n(?:title: (%s)\n)?(?:author: (%s)\n)?(" % (_TEXT, _TEXT)
+    + b"".join(rb"%d [%s]{8}\n" % (rank, _LETTERS[rank]) for rank in range(8, 0, -1))
     + rb")"
     + FILES
     + rb"\n"
@@ -23,7 +29,7 @@ HEAD = re.compile(
 FIRST_PHASE = re.compile(rb"([^ \n]+(?: [^ \n]+)?)\n(set|play)(?![^\n])")
 SOUND = b"sound"
 NOT_POSSIBLE = b"not possible"
-TOTAL = re.compile(rb"solutions: (0|[1-9][0-9]{0,17})(, stopped)?")
+TOTAL = re.compile(rb"solutions: (0(?!,)|[1-9][0-9]{0,17})(, stopped)?")
 # Ends each item.
 ITEM_END = b"\n\n"
 # How a total begins.

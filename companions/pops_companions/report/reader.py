@@ -1,7 +1,7 @@
 """Reads reports of pops as they come, by their grammar (docs/report.ebnf).
 
-The reading is strict: a report that departs from the grammar, or that was cut, is refused with the
-line where it does. Numbers may have gaps, as pops-many leaves them where it stopped problems.
+The reading is strict: a report that departs from the grammar, that was cut, or that has a move which
+the men on its printed board can't make, is refused with the line where it does. Numbers may have gaps, as pops-many leaves them where it stopped problems.
 Several reports may follow each other: a number that doesn't grow begins the next one.
 Where unfinished problems are allowed, a problem may also have been stopped, and the report may end
 inside a problem.
@@ -17,8 +17,12 @@ from typing import Optional
 from pops_companions.chess.men import Colour
 from pops_companions.chess.stipulation import Condition, Play, Stipulation
 from pops_companions.report import events, items, lines
-from pops_companions.report.item_builder import MOST_LEVELS, ItemBuilder, KnownNode, KnownNodes
-from pops_companions.report.moves import PlayedMove, prefix, read_move
+from pops_companions.report.help_lines import HelpState, KnownMove, KnownMoves, LineRefused, Moves
+from pops_companions.report.item_builder import ItemBuilder
+from pops_companions.report.moves import Mark, PlayedMove, prefix
+from pops_companions.report.steps import Needs, board_number, read_step, step_of
+from pops_companions.report.tree import MOST_LEVELS, Detail, KnownNode, KnownNodes, TreeState
+from pops_companions.stored import stored
 
 
 class ReportError(ValueError):
@@ -39,6 +43,7 @@ class Allowed(Enum):
 # Why a problem is unfinished if the report ends in it.
 CUT = "the report ends here"
 _LONGEST_SHOWN = 60
+_FAULT_TEXTS: Sequence[str] = stored("input/fault_texts.json")["en"]
 # No line of a report is as long; so a text without line ends isn't read to its end, if it has one.
 _LONGEST_LINE = 1 << 20
 # So that the memory for known lines is bounded.
@@ -54,6 +59,8 @@ _MOST_TAILS = 8192
 State = Callable[[bytes], Sequence[events.Event]]
 # What an item says after its board.
 _Tail = tuple[Stipulation, Optional[Condition], Optional[tuple[items.Phase, ...]]]
+# What lines of a phase are known by.
+_Asked = tuple[Stipulation, bool, items.PhaseKind, bool]
 
 
 @lru_cache(maxsize=1000)
@@ -62,7 +69,10 @@ def asked_of(line: bytes) -> tuple[Stipulation, Optional[Condition]]:
     nothing.
     """
     words = line.decode("latin-1").split(" ")
-    return Stipulation.of_text(words[0]), Condition(words[1]) if len(words) > 1 else None
+    stipulation = Stipulation.of_text(words[0])
+    if not stipulation.is_in_range:
+        raise ValueError(f"no stipulation of pops: {words[0]}")
+    return stipulation, Condition(words[1]) if len(words) > 1 else None
 
 
 class ReportReader:
@@ -83,16 +93,22 @@ class ReportReader:
         self._ranks: list[str] = []
         self._stipulation = Stipulation.of_text("#1")
         self._kind = items.PhaseKind.PLAY
+        self._condition: Optional[Condition] = None
+        self._board: Optional[int] = None
         self._count = 0
-        self._deepest = 0
-        # What lines of battle play say, for each first half-move.
-        self._known: dict[int, KnownNodes] = {}
+        self._tree = TreeState()
+        self._detail = Detail.UNKNOWN
+        # Whether only the next line shows how deep the trees go.
+        self._is_undecided = False
+        # What lines of battle play say, by what is asked and how deep the trees go.
+        self._known: dict[_Asked, KnownNodes] = {}
         self._known_here: KnownNodes = {}
-        # The moves of lines of help play by their words, for each place, for each first half-move.
-        self._known_moves: dict[int, list[dict[str, PlayedMove]]] = {}
-        self._known_moves_here: list[dict[str, PlayedMove]] = []
-        # What short items say after their boards.
-        self._tails: dict[bytes, _Tail] = {}
+        self._known_count = 0
+        self._help = HelpState()
+        # The moves of lines of help play, for each of their places.
+        self._known_moves: dict[_Asked, list[KnownMoves]] = {}
+        # What short items say after their boards, and what it needs on them.
+        self._tails: dict[bytes, tuple[_Tail, Needs]] = {}
 
     def feed(self, data: bytes) -> Iterator[events.Event]:
         """Takes some bytes of the text, cut anywhere, and yields what they say.
@@ -128,6 +144,12 @@ class ReportReader:
             is_whole = self._state == self._end
             yield events.EndEvent(self._number, self._unfinished if is_whole else reason)
         self._begun, self._state = b"", self._problem
+        # (a reader refers to itself, so that its memory is free only later)
+        self._known.clear()
+        self._known_here.clear()
+        self._known_moves.clear()
+        self._tails.clear()
+        self._known_count = 0
 
     @property
     def is_whole(self) -> bool:
@@ -166,21 +188,30 @@ class ReportReader:
             return self._title_line(line)
         self._state = self._end
         fault = items.Fault(int(found[1]), int(found[2]), found[3].decode("latin-1"))
+        # (a later program may have more faults)
+        if _FAULT_TEXTS[fault.number - 1 : fault.number] not in ([fault.text], []):
+            raise self.refused("the text of this fault", line)
         return (events.FaultEvent(self._number, fault),)
 
     def _title_line(self, line: bytes) -> Sequence[events.Event]:
         self._state = self._author_line
         if not line.startswith(lines.TITLE):
             return self._author_line(line)
-        self._title = line[len(lines.TITLE) :]
+        self._title = self._text(line, len(lines.TITLE))
         return ()
 
     def _author_line(self, line: bytes) -> Sequence[events.Event]:
         self._state = self._board_line
         if not line.startswith(lines.AUTHOR):
             return self._board_line(line)
-        self._author = line[len(lines.AUTHOR) :]
+        self._author = self._text(line, len(lines.AUTHOR))
         return ()
+
+    def _text(self, line: bytes, start: int) -> bytes:
+        """Returns the title or author that begins at a place of a line."""
+        if lines.TEXT.fullmatch(line, start) is None:
+            raise self.refused("a text of at most 200 bytes without blanks around it", line)
+        return line[start:]
 
     def _board_line(self, line: bytes) -> Sequence[events.Event]:
         self._state = self._rank if line.startswith(b"8 ") else self._stipulation_line
@@ -189,7 +220,8 @@ class ReportReader:
     def _rank(self, line: bytes) -> Sequence[events.Event]:
         rank = 8 - len(self._ranks)
         found = lines.RANK.fullmatch(line)
-        if found is None or int(found[1]) != rank:
+        is_wrong = found is not None and rank in lines.EDGES and b"p" in found[2].lower()
+        if found is None or is_wrong or int(found[1]) != rank:
             raise self.refused(f"rank {rank} of a board", line)
         self._ranks.append(intern(found[2].decode("ascii")))
         if rank == 1:
@@ -199,6 +231,8 @@ class ReportReader:
     def _files(self, line: bytes) -> Sequence[events.Event]:
         if line != lines.FILES:
             raise self.refused("the line of files below a board", line)
+        if any("".join(self._ranks).count(king) > 1 for king in "Kk"):
+            raise self.refused("a board with one king of each colour at most", line)
         self._state = self._stipulation_line
         return ()
 
@@ -210,7 +244,9 @@ class ReportReader:
         if line.count(b" ") > 1:
             raise self.refused("a stipulation and at most one condition", line)
         board = items.Board(tuple(self._ranks)) if self._ranks else None
-        self._begin(stipulation)
+        ranks = [f"{8 - place} {rank}\n" for place, rank in enumerate(self._ranks)]
+        self._board = board_number("".join(ranks).encode("ascii")) if ranks else None
+        self._begin(stipulation, condition)
         names = (self._title, self._author, board)
         return (events.HeadEvent(self._number, *names, stipulation, condition),)
 
@@ -236,10 +272,11 @@ class ReportReader:
             end = whole if found < 0 else found + len(lines.ITEM_END)
             head = lines.HEAD.match(text, at, end) if self._state == self._problem and found >= 0 else None
             tail = b"" if head is None else text[head.end() : end]
-            if head is not None and (known := self._tails.get(tail)) is not None:
+            known = None if head is None else self._tails.get(tail)
+            if head is not None and known is not None and known[1].are_met(head[4]) and _has_few_kings(head[4]):
                 self._line += text.count(b"\n", at, end)
                 title, author, ranks = head.group(2, 3, 4)
-                yield items.SoundItem(int(head[1]), title, author, _board_of(ranks), *known)
+                yield items.SoundItem(int(head[1]), title, author, _board_of(ranks), *known[0])
             else:
                 for item in self._items_of(text[at : end - 1].split(b"\n"), builder):
                     self._note_tail(tail, item)
@@ -250,7 +287,8 @@ class ReportReader:
         """Notes what a finished item says after its board."""
         if 0 < len(tail) <= _LONGEST_TAIL and len(self._tails) < _MOST_TAILS:
             if isinstance(item, items.SoundItem) and item.unfinished is None:
-                self._tails[tail] = item.stipulation, item.condition, item.phases
+                said = item.stipulation, item.condition, item.phases
+                self._tails[tail] = said, Needs(item.phases or ())
 
     def _items_of(self, lines_left: list[bytes], builder: ItemBuilder) -> Iterator[items.AnyItem]:
         """Takes lines, and yields the items that end in them."""
@@ -275,7 +313,7 @@ class ReportReader:
         text = b"\n".join(lines_left[at : at + _LINES_OF_HEAD])
         head = lines.HEAD.match(text)
         found = head and lines.FIRST_PHASE.match(text, head.end())
-        if head is None or found is None:
+        if head is None or found is None or not _has_few_kings(head[4]):
             return 0
         (number, title, author, ranks), (asked, phase) = head.groups(), found.groups()
         try:
@@ -283,7 +321,8 @@ class ReportReader:
         except ValueError:
             return 0
         self._number, self._unfinished = int(number), None
-        self._begin(stipulation)
+        self._board = board_number(ranks)
+        self._begin(stipulation, condition)
         names = (title, author, _board_of(ranks))
         builder.take_head(events.HeadEvent(self._number, *names, stipulation, condition))
         for event in self._phase(items.PhaseKind(phase.decode("ascii"))):
@@ -304,61 +343,124 @@ class ReportReader:
         else:
             taken = self._take_nodes(lines_left, at, builder)
         self._line += taken
-        self._count, self._deepest = builder.phase_so_far
+        self._count = builder.solutions_so_far
         return taken
 
     def _take_nodes(self, lines_left: list[bytes], at: int, builder: ItemBuilder) -> int:
         """Takes lines of battle play; returns how many."""
-        place, last = at, self._deepest_level
-        while place < len(lines_left):
-            place += builder.take_known(lines_left, place, self._known_here, last)
-            if place == len(lines_left) or not self._note_node(lines_left[place]):
+        place, end = at, len(lines_left)
+        if self._detail is Detail.UNKNOWN:
+            end = self._look_ahead(lines_left, at)
+        while place < end:
+            place += builder.take_known(lines_left, place, end, self._known_here, self._tree)
+            if place == end or not self._note_new_node(lines_left[place]):
                 break
         return place - at
 
-    def _note_node(self, line: bytes) -> bool:
+    def _look_ahead(self, lines_left: list[bytes], at: int) -> int:
+        """Finds out how deep the trees go, if the lines from a place on show it; returns the place up to
+        which they can be taken.
+        """
+        if self._is_undecided:
+            self._decide(lines_left[at])
+        for place in range(at, len(lines_left)):
+            if self._detail is not Detail.UNKNOWN:
+                break
+            node = self._known_node(lines_left[place])
+            if node is None:
+                break
+            if self._shows_detail(node):
+                if place + 1 == len(lines_left):
+                    return place
+                self._set_detail(lines_left[place + 1])
+        return len(lines_left)
+
+    def _shows_detail(self, node: KnownNode) -> bool:
+        """Returns whether the line after a node shows how deep the trees go."""
+        return self._detail is Detail.UNKNOWN and node.level == self._first_levels < node.least
+
+    def _set_detail(self, line: bytes) -> None:
+        """Notes how deep the trees go, by the line after a node that shows it."""
+        is_deeper = line.startswith(b"  " * (self._first_levels + 1))
+        self._detail = Detail.TO_THE_GOAL if is_deeper else Detail.FIRST_MOVES
+        self._choose_known()
+
+    def _decide(self, line: bytes) -> None:
+        """Notes how deep the trees go, if the line before had to show it."""
+        if self._is_undecided:
+            self._is_undecided = False
+            self._set_detail(line)
+            if self._detail is Detail.FIRST_MOVES:
+                self._tree.least, self._tree.most = 0, self._first_levels
+
+    def _note_new_node(self, line: bytes) -> bool:
         """Notes what a line says that wasn't known; returns whether it is one of battle play."""
         if line.startswith(lines.SOLUTIONS) or line in self._known_here:
             return False
-        known = self._read_node(line)
-        if known is None or len(self._known_here) >= _MOST_KNOWN:
-            return False
-        self._known_here[line] = known
-        return True
+        return self._known_node(line) is not None
 
     def _take_help_lines(self, lines_left: list[bytes], at: int, builder: ItemBuilder) -> int:
         """Takes lines of help play whose words are one move each; returns how many."""
-        known = self._known_moves_here
+        state = self._help
         for place in range(at, len(lines_left)):
             text = lines_left[place].decode("latin-1")
-            words = text.split(" ")
-            if len(words) != len(known):
-                return place - at
             try:
-                moves = tuple([here[word] for here, word in zip(known, words)])
-            except KeyError:
-                if not self._note_moves(words):
-                    return place - at
-                moves = tuple([here[word] for here, word in zip(known, words)])
+                moves = state.moves_of(text) or self._moves_after_noting(text)
+            except LineRefused as refused:
+                self._line += place - at + 1
+                raise self.refused(str(refused), lines_left[place]) from None
+            if moves is None:
+                return place - at
             builder.take_help_line(items.HelpLine(text, moves))
         return len(lines_left) - at
 
+    def _moves_after_noting(self, text: str) -> Optional[Moves]:
+        """Returns the moves of a line some words of which weren't known; None if a move has two words."""
+        return self._help.moves_of(text) if self._note_moves(text.split(" ")) else None
+
     def _note_moves(self, words: list[str]) -> bool:
         """Notes the moves of a line's words that weren't known; returns whether now all are."""
-        for place, (known, word) in enumerate(zip(self._known_moves_here, words)):
+        if len(words) != self._halves:
+            return False
+        for place, (known, word) in enumerate(zip(self._help.known, words)):
             if word in known:
                 continue
             half = self._first_half + place
-            lead = prefix(half) if half % 2 == 1 or place == 0 else ""
-            move = whole_move(word, lead, half, self._stipulation.side(half))
-            if move is None or len(known) >= _MOST_KNOWN:
+            move = whole_move(word, self._lead(half), half, self._stipulation.side(half))
+            if move is None or not self._is_noted(place, word, move):
                 return False
-            known[word] = move
         return True
 
-    def _begin(self, stipulation: Stipulation) -> None:
+    def _lead(self, half: int) -> str:
+        """Returns the number before a half-move in a line of help play."""
+        return prefix(half) if half % 2 == 1 or half == self._first_half else ""
+
+    def _is_noted(self, place: int, word: str, move: PlayedMove) -> bool:
+        """Notes a move of a line of help play by its word; returns whether it may stand there."""
+        known = self._help.known[place]
+        is_last = place == len(self._help.known) - 1
+        step = step_of(move)
+        if step is None or self._has_reached(move) is not is_last:
+            return False
+        if len(known) >= _MOST_KNOWN:
+            known.clear()
+        known[word] = KnownMove(move, step)
+        return True
+
+    def _has_reached(self, move: PlayedMove) -> Optional[bool]:
+        """Returns whether a move reaches the goal; None if it has a sign that it can't have here."""
+        if move.rebirth is not None and self._condition is not Condition.CIRCE:
+            return None
+        if move.mark in (None, Mark.CHECK):
+            return False
+        is_goal = move.mark is not None and move.mark.value == self._stipulation.goal.value
+        is_of_last_side = move.side is self._stipulation.last_side
+        return True if is_goal and is_of_last_side else None
+
+    def _begin(self, stipulation: Stipulation, condition: Optional[Condition]) -> None:
         """Sets the state that takes the first line after the head."""
-        self._stipulation = stipulation
+        self._stipulation, self._condition = stipulation, condition
+        self._detail, self._is_undecided = Detail.UNKNOWN, False
         self._state = self._first_phase
 
     def _first_phase(self, line: bytes) -> Sequence[events.Event]:
@@ -375,20 +477,32 @@ class ReportReader:
         return self._phase(items.PhaseKind.PLAY)
 
     def _phase(self, kind: items.PhaseKind) -> Sequence[events.Event]:
-        self._kind, self._count, self._deepest = kind, 0, 0
-        self._known_here = self._known.setdefault(self._first_half, {})
+        self._kind, self._count = kind, 0
         if self._stipulation.play is Play.HELP:
-            known = self._known_moves.setdefault(self._first_half, [])
-            known.extend({} for _ in range(self._halves - len(known)))
-            self._known_moves_here = known[: self._halves]
+            asked = self._asked
+            if asked not in self._known_moves:
+                self._known_moves[asked] = [{} for _ in range(self._halves)]
+            self._help.begin(self._known_moves[asked], self._board)
+        else:
+            self._tree.begin(self._board)
+            self._choose_known()
         self._state = self._first_solution
         return (events.PhaseEvent(self._number, kind),)
 
+    @property
+    def _asked(self) -> _Asked:
+        is_circe = self._condition is Condition.CIRCE
+        return self._stipulation, is_circe, self._kind, self._detail is Detail.FIRST_MOVES
+
+    def _choose_known(self) -> None:
+        """Takes up what is known of lines of battle play of this phase."""
+        self._known_here = self._known.setdefault(self._asked, {})
+
     def _first_solution(self, line: bytes) -> Sequence[events.Event]:
-        if line != lines.NOT_POSSIBLE:
+        if line != lines.NOT_POSSIBLE or self._kind is not items.PhaseKind.SET:
             self._state = self._solution
             return self._solution(line)
-        self._state = self._after_phase()
+        self._state = self._play
         return (events.NotPossibleEvent(self._number, self._kind),)
 
     def _after_phase(self) -> State:
@@ -401,6 +515,7 @@ class ReportReader:
             return self._play(line)
         total = lines.TOTAL.fullmatch(line)
         if total is not None:
+            self._refuse_open_tree(line)
             self._refuse_other_count(int(total[1]), line)
             self._state = self._after_phase()
             counted = items.Total(self._count, total[2] is not None)
@@ -408,7 +523,13 @@ class ReportReader:
         if self._stipulation.play is Play.HELP:
             self._count += 1
             return (events.LineEvent(self._number, self._kind, self._help_line(line)),)
-        return (self._node(line, events.Place.SOLUTION, 0),)
+        return (self._node(line, events.Place.SOLUTION),)
+
+    def _refuse_open_tree(self, line: bytes) -> None:
+        """Refuses a line in place of a move that has to follow the one above."""
+        self._decide(line)
+        if self._tree.least > 0:
+            raise self.refused("a move below the one above", line)
 
     def _refuse_other_count(self, count: int, line: bytes) -> None:
         if count != self._count:
@@ -425,22 +546,34 @@ class ReportReader:
 
     def _help_line(self, line: bytes) -> items.HelpLine:
         text = line.decode("latin-1")
-        halves = self._halves
+        try:
+            moves = self._help.moves_of(text) or self._moves_after_noting(text)
+            if moves is None:
+                moves = self._help.moves_of_words(self._words_of(text))
+        except LineRefused as refused:
+            raise self.refused(str(refused), line) from None
+        return items.HelpLine(text, moves)
+
+    def _words_of(self, text: str) -> list[str]:
+        """Returns the moves of a line of help play with their numbers, and notes them; a move may have two
+        words.
+        """
         place = 0
-        moves: list[PlayedMove] = []
-        for half in range(self._first_half, self._first_half + halves):
-            gap = " " if moves else ""
-            lead = gap + (prefix(half) if half % 2 == 1 or not moves else "")
+        words: list[str] = []
+        for half in range(self._first_half, self._first_half + self._halves):
+            gap = " " if words else ""
+            lead = gap + self._lead(half)
             if not text.startswith(lead, place):
                 break
-            found = read_move(text, place + len(lead), half, self._stipulation.side(half))
-            if found is None:
+            found = read_step(text, place + len(lead), half, self._stipulation.side(half))
+            word = "" if found is None else text[place + len(gap) : found[1]]
+            if found is None or not self._is_noted(len(words), word, found[0]):
                 break
-            moves.append(found[0])
+            words.append(word)
             place = found[1]
-        if place != len(text) or not moves or len(moves) != halves:
-            raise self.refused(f"a line of {halves} half-moves", line)
-        return items.HelpLine(text, tuple(moves))
+        if place != len(text) or not words or len(words) != self._halves:
+            raise LineRefused(f"a line of {self._halves} half-moves")
+        return words
 
     @property
     def _deepest_level(self) -> int:
@@ -448,30 +581,68 @@ class ReportReader:
         last = self._stipulation.first_half + min(self._stipulation.half_moves, MOST_LEVELS) - 1
         return last - self._first_half
 
-    def _read_node(self, line: bytes) -> Optional[KnownNode]:
+    @property
+    def _first_levels(self) -> int:
+        """The deepest level that is shown without Variation."""
+        return 1 if self._kind is items.PhaseKind.SET else 0
+
+    def _known_node(self, line: bytes) -> Optional[KnownNode]:
         """Returns what a line of battle play says; None for another line."""
+        node = self._known_here.get(line)
+        if node is None:
+            node = self._read_node(line)
+            if node is not None:
+                if self._known_count >= _MOST_KNOWN:
+                    self._known.clear()
+                    self._known_count = 0
+                    self._choose_known()
+                self._known_here[line] = node
+                self._known_count += 1
+        return node
+
+    def _read_node(self, line: bytes) -> Optional[KnownNode]:
+        """Reads a line of battle play; returns None for another line."""
         text = line.decode("latin-1")
         level = (len(text) - len(text.lstrip(" "))) // 2
         half = self._first_half + level
         lead = " " * (2 * level) + prefix(half)
         move = whole_move(text, lead, half, self._stipulation.side(half))
-        return None if move is None else KnownNode(level, text, move)
+        step = None if move is None else step_of(move)
+        has_reached = None if move is None else self._has_reached(move)
+        if move is None or step is None or has_reached is None or level > self._deepest_level:
+            return None
+        if has_reached:
+            return KnownNode(level, text, move, 0, level, [0], step)
+        if self._detail is Detail.FIRST_MOVES and level >= self._first_levels:
+            is_known = level == self._first_levels < self._deepest_level
+            return KnownNode(level, text, move, 0, level, [0], step) if is_known else None
+        if level == self._deepest_level:
+            return None
+        return KnownNode(level, text, move, level + 1, level + 1, [0], step)
 
-    def _node(self, line: bytes, place: events.Place, least: int) -> events.NodeEvent:
-        """Returns the node of a line, whose level is from `least` to one more than the level before."""
-        known = self._read_node(line)
-        if known is None or known.level > self._deepest_level or not least <= known.level <= self._deepest:
-            raise self.refused("a move, or the number of solutions", line)
-        level, text, move = known
+    def _node(self, line: bytes, place: events.Place) -> events.NodeEvent:
+        """Returns the node of a line."""
+        self._decide(line)
+        node = self._known_node(line)
+        expected = "a move, or the number of solutions" if node is None else self._tree.refusal(node)
+        if node is None or expected is not None:
+            raise self.refused(expected or "", line)
+        self._tree.add(node)
+        self._is_undecided = self._shows_detail(node)
+        level, text, move = node[:3]
         self._count += level == 0
-        self._deepest = level + 1
         return events.NodeEvent(self._number, self._kind, place, level, text[2 * level :], move)
 
 
 def whole_move(text: str, lead: str, half: int, side: Colour) -> Optional[PlayedMove]:
     """Returns the move that makes up a line after its lead; None for another line."""
-    found = read_move(text, len(lead), half, side) if text.startswith(lead) else None
+    found = read_step(text, len(lead), half, side) if text.startswith(lead) else None
     return None if found is None or found[1] != len(text) else found[0]
+
+
+def _has_few_kings(lines_of_ranks: bytes) -> bool:
+    """Returns whether each colour has one king at most."""
+    return lines_of_ranks.count(b"K") < 2 and lines_of_ranks.count(b"k") < 2
 
 
 def _board_of(lines_of_ranks: bytes) -> items.Board:

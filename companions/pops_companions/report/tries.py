@@ -1,6 +1,6 @@
 """What a text of pops-tries says of each problem, and its reading: keys, threats, defences, tries.
 
-The reading is strict, as that of reports.
+The reading is strict, as that of reports (docs/tries.ebnf).
 """
 
 import re
@@ -8,18 +8,19 @@ from collections.abc import Iterable, Iterator, Sequence
 from dataclasses import dataclass, field
 from typing import Optional, Union
 
-from pops_companions.chess.stipulation import Condition, Play, Stipulation
+from pops_companions.chess.stipulation import Condition, Goal, Play, Stipulation
 from pops_companions.report import events, items, lines
 from pops_companions.report.item_builder import GrowingPhase, total_text
-from pops_companions.report.moves import PlayedMove, prefix
+from pops_companions.report.moves import Mark, PlayedMove, prefix
 from pops_companions.report.reader import Allowed, ReportReader, State, read_events, whole_move
+from pops_companions.report.steps import step_of
 
 NO_TRIES = "no tries in help play"
 _TRIES = "tries"
 _BUT = "  but"
 _STALEMATE = "    stalemate"
-_TRIES_TOTAL = re.compile(r"tries: ([0-9]{1,18})")
-_NODE = re.compile(r"( *)[0-9]")
+_TRIES_TOTAL = re.compile(r"tries: (0|[1-9][0-9]{0,17})", re.ASCII)
+_NODE = re.compile(r"( *)[0-9]", re.ASCII)
 _Below = Union[events.MenaceEvent, events.RefutationEvent, events.StalemateEvent]
 _OfPhase = Union[events.PhaseEvent, events.NotPossibleEvent, events.TotalEvent]
 
@@ -64,6 +65,21 @@ class TriesItem:
 
 
 TriesReportItem = Union[items.FaultyItem, TriesItem]
+
+
+def is_of_item(tries: TriesItem, item: items.SoundItem) -> bool:
+    """Returns whether a text of tries has the title, the author and the keys that the report of the problem
+    has, the keys where both show all of them.
+    """
+    if (tries.title, tries.author) != (item.title, item.author):
+        return False
+    play = item.phase(items.PhaseKind.PLAY)
+    if play is None or play.total is None or tries.total is None:
+        return True
+    keys = tuple([key.text[:-1] for key in tries.keys])
+    return keys == play.texts and tries.total == play.total
+
+
 AnyTriesItem = Union[items.FaultyItem, TriesItem, items.HeadlessItem]
 
 
@@ -73,12 +89,17 @@ class TriesReader(ReportReader):
     def __init__(self, allowed: Allowed):
         super().__init__(allowed)
         self._sign = events.FirstMoveKind.KEY
+        self._has_ended = False
+        # The first moves so far, and the replies to the last one, without what they do to a king.
+        self._first_moves: set[str] = set()
+        self._replies: set[str] = set()
 
-    def _begin(self, stipulation: Stipulation) -> None:
-        super()._begin(stipulation)
+    def _begin(self, stipulation: Stipulation, condition: Optional[Condition]) -> None:
+        super()._begin(stipulation, condition)
         if stipulation.play is Play.HELP:
             self._state = self._no_tries
         self._sign = events.FirstMoveKind.KEY
+        self._first_moves.clear()
 
     def _no_tries(self, line: bytes) -> Sequence[events.Event]:
         if line == lines.SOUND:
@@ -91,6 +112,10 @@ class TriesReader(ReportReader):
         if line.decode("latin-1") != wanted:
             raise self.refused(repr(wanted), line)
 
+    @property
+    def _first_levels(self) -> int:
+        return 2 if self._kind is items.PhaseKind.PLAY else super()._first_levels
+
     def _phase(self, kind: items.PhaseKind) -> Sequence[events.Event]:
         begun = super()._phase(kind)
         if kind is items.PhaseKind.PLAY:
@@ -100,10 +125,19 @@ class TriesReader(ReportReader):
     def _first_move(self, line: bytes) -> Sequence[events.Event]:
         if not line[:1].isdigit():
             return self._total(line)
-        text = line.decode("latin-1")
-        move = self._signed_move(text, self._stipulation.first_half, prefix(1), self._sign.value)
+        text, sign = line.decode("latin-1"), self._sign.value
+        move = self._signed_move(text, self._stipulation.first_half, prefix(1), sign)
+        self._tree.begin(self._board)
+        self._has_ended = self._play_move(line, move)
+        is_try = self._sign is events.FirstMoveKind.TRY
+        is_last = self._stipulation.half_moves == 1
+        if self._has_ended and is_try or is_last and not (self._has_ended or is_try):
+            raise self.refused(f"a move with {sign}", line)
+        if not _added(self._first_moves, move):
+            raise self.refused("another first move than the ones before", line)
+        self._replies.clear()
         self._count += 1
-        self._state = self._menace
+        self._state = self._first_move if self._has_ended else self._menace
         return (events.FirstMoveEvent(self._number, self._sign, text, move),)
 
     def _signed_move(self, text: str, half: int, lead: str, sign: str) -> PlayedMove:
@@ -115,6 +149,13 @@ class TriesReader(ReportReader):
             raise self.refused(f"a move with {sign}", text.encode("latin-1"))
         return move
 
+    def _play_move(self, line: bytes, move: PlayedMove) -> bool:
+        """Plays a first move; returns whether it reaches the goal."""
+        step, has_reached = step_of(move), self._has_reached(move)
+        if step is None or has_reached is None or not self._tree.plays(step, 0):
+            raise self.refused("a move that the men on the board can make", line)
+        return has_reached
+
     def _menace(self, line: bytes) -> Sequence[events.Event]:
         text = line.decode("latin-1")
         menace = next((it for it in events.Menace if text == f"  {it.value}"), None)
@@ -123,29 +164,37 @@ class TriesReader(ReportReader):
             self._state = self._stalemate
             return ()
         if menace is None:
-            return self._first_move(line)
-        self._deepest = 2
-        self._state = self._threat
-        if menace is not events.Menace.THREAT:
+            raise self.refused("what the key threatens", line)
+        if menace is events.Menace.THREAT:
+            self._tree.begin_below(2)
+            self._state = self._threat
+        else:
             self._go_to_defences()
         return (events.MenaceEvent(self._number, menace),)
 
     def _go_to_defences(self) -> State:
-        self._deepest, self._state = 1, self._defence
+        self._tree.begin_below(1)
+        self._tree.least = 0
+        self._state = self._defence
         return self._state
 
     def _threat(self, line: bytes) -> Sequence[events.Event]:
-        if not self._is_node(line, 2):
-            return self._go_to_defences()(line)
-        return (self._node(line, events.Place.THREAT, 2),)
+        if self._is_node(line, 2):
+            return (self._node(line, events.Place.THREAT),)
+        self._refuse_open_tree(line)
+        return self._go_to_defences()(line)
 
     def _defence(self, line: bytes) -> Sequence[events.Event]:
         if self._is_node(line, 1):
-            return (self._node(line, events.Place.DEFENCE, 1),)
+            node = self._node(line, events.Place.DEFENCE)
+            if node.level == 1:
+                _added(self._replies, node.move)
+            return (node,)
+        self._refuse_open_tree(line)
         if self._sign is events.FirstMoveKind.KEY:
             return self._first_move(line)
         self._refuse_other(line, _BUT)
-        self._state = self._refutation
+        self._state = self._first_refutation
         return ()
 
     def _is_node(self, line: bytes, level: int) -> bool:
@@ -153,15 +202,37 @@ class TriesReader(ReportReader):
         found = _NODE.match(line.decode("latin-1"))
         return found is not None and len(found[1]) >= 2 * level
 
-    def _refutation(self, line: bytes) -> Sequence[events.Event]:
+    def _first_refutation(self, line: bytes) -> Sequence[events.Event]:
         text, lead = line.decode("latin-1"), f"    {prefix(2)}"
-        if not text.startswith(lead):
-            return self._first_move(line)
         move = self._signed_move(text, self._stipulation.first_half + 1, lead, "!")
+        step = step_of(move)
+        if step is None or not self._may_refute(move) or not self._tree.is_possible(step, 1):
+            raise self.refused("a reply that the men on the board can make", line)
+        if not _added(self._replies, move):
+            raise self.refused("another reply than the ones before", line)
+        self._state = self._refutation
         return (events.RefutationEvent(self._number, text.lstrip(" "), move),)
+
+    def _may_refute(self, move: PlayedMove) -> bool:
+        """Returns whether the signs of a reply let it refute a try."""
+        if move.rebirth is not None and self._condition is not Condition.CIRCE:
+            return False
+        if move.mark in (None, Mark.CHECK):
+            return True
+        goal = self._stipulation.goal
+        is_goal = move.mark is not None and move.mark.value == goal.value
+        if self._stipulation.play is Play.SELF and is_goal:
+            return False
+        return move.mark is Mark.MATE or goal is Goal.STALEMATE
+
+    def _refutation(self, line: bytes) -> Sequence[events.Event]:
+        is_refutation = line.startswith(b"    ")
+        return self._first_refutation(line) if is_refutation else self._first_move(line)
 
     def _stalemate(self, line: bytes) -> Sequence[events.Event]:
         self._refuse_other(line, _STALEMATE)
+        if self._stipulation.play is Play.SELF or self._stipulation.goal is not Goal.MATE:
+            raise self.refused("a refutation", line)
         self._state = self._first_move
         return (events.StalemateEvent(self._number),)
 
@@ -186,6 +257,14 @@ class TriesReader(ReportReader):
             raise self.refused(f"'tries: {self._count}', the number of tries above", line)
         self._state = self._end
         return (events.TriesTotalEvent(self._number, self._count),)
+
+
+def _added(moves: set[str], move: PlayedMove) -> bool:
+    """Adds a move without what it does to a king; returns whether it wasn't there."""
+    text = move.text if move.mark is None else move.text[:-1]
+    is_new = text not in moves
+    moves.add(text)
+    return is_new
 
 
 @dataclass
@@ -253,7 +332,7 @@ class TriesBuilder:
         if isinstance(event, events.StalemateEvent):
             move.is_stalemate = True
         else:
-            move.refutations.append(items.Node(f"    {event.text}", event.move))
+            move.refutations.append(items.Node(f"    {event.text}", event.move, []))
 
     def _take_of_phase(self, event: _OfPhase) -> None:
         growing = self._growing

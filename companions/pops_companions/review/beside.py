@@ -9,7 +9,7 @@ from pops_companions.command import CommandError, Status
 from pops_companions.input.given import GivenProblem
 from pops_companions.input.given_source import read_given
 from pops_companions.report.items import AnyItem, FaultyItem, SoundItem
-from pops_companions.report.tries import TriesItem
+from pops_companions.report.tries import TriesItem, is_of_item
 from pops_companions.review.kept_tries import KnownTries
 from pops_companions.review.judging import Judgement, KeptJudgements, judged, missing
 from pops_companions.review.posing import AnswersError, ShortAnswers
@@ -136,7 +136,7 @@ class Beside:
         if tries is not None:
             boards = {tries.board, item.board} - {None}
             theirs, ours = (tries.stipulation, tries.condition), (item.stipulation, item.condition)
-            if len(boards) > 1 or theirs != ours:
+            if len(boards) > 1 or theirs != ours or not is_of_item(tries, item):
                 message = f"the text of tries has another problem {item.number} than the report"
                 raise CommandError(Status.DEVICE, message)
         return tries

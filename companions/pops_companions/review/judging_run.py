@@ -8,7 +8,7 @@ import os
 import sys
 from collections.abc import Callable, Iterable, Iterator, Sequence
 from concurrent.futures import ThreadPoolExecutor
-from contextlib import contextmanager, redirect_stderr
+from contextlib import contextmanager, redirect_stderr, suppress
 from dataclasses import dataclass, replace
 from functools import partial
 from pathlib import Path
@@ -27,8 +27,9 @@ from pops_companions.many.program import RunError
 from pops_companions.many.tries_program import TriesProgram
 from pops_companions.report.lines import in_a_line
 from pops_companions.report.items import AnyItem, Board, FaultyItem, HeadlessItem, SoundItem
+from pops_companions.report.reader import ReportError, read_unfinished_report
 from pops_companions.report.source import UNFINISHED
-from pops_companions.report.tries import TriesItem
+from pops_companions.report.tries import TriesItem, is_of_item
 from pops_companions.review.posing import posed_problems
 from pops_companions.review.reading import tries_of_text
 from pops_companions.review.work_folder import WorkFolder
@@ -230,7 +231,7 @@ class Work:
         None where it is faulty, takes too long or fails.
         """
         number = wanted.problem.number
-        path = self.folder.path / f"tries-{number}.txt"
+        path = self._text_of(number)
         name = f"problem {number}: the output of {self._runs.tries}"
         kept = self.folder.kept(path)
         try:
@@ -252,6 +253,21 @@ class Work:
         if kept is None and self.folder.changed is None:
             self.folder.keep(path, text)
         return replace(item, number=number)
+
+    def leave_out_others(self, tries: dict[int, TriesItem]) -> None:
+        """Leaves out, and notes, the tries of each problem whose keys aren't those of its report."""
+        # (judging the report says where it can't be read)
+        with open(self.report, "rb") as source, suppress(ReportError):
+            for item in read_unfinished_report(source):
+                shown = tries.get(item.number)
+                if isinstance(item, SoundItem) and shown is not None and not is_of_item(shown, item):
+                    del tries[item.number]
+                    files.remove(str(self._text_of(item.number)))
+                    self.failed[item.number] = "pops-tries shows other keys than pops"
+                    self.is_finished = False
+
+    def _text_of(self, number: int) -> Path:
+        return self.folder.path / f"tries-{number}.txt"
 
     def compare(self, items: Iterable[Optional[AnyItem]]) -> None:
         """Notes the problems that only pops-tries calls faulty."""

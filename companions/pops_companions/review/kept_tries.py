@@ -2,7 +2,7 @@
 
 import os
 import tempfile
-from collections.abc import Iterator
+from collections.abc import Iterator, Sequence
 from contextlib import ExitStack, contextmanager
 from typing import BinaryIO, NoReturn, Optional, Protocol, Union, cast
 
@@ -32,18 +32,18 @@ class KeptTries:
         self._handle = source.fileno()
         source.seek(0)
         try:
-            for _ in read_tries(source):
-                pass
+            numbers = [item.number for item in read_tries(source)]
         except ReportError as error:
             message = f"{name} is no text of pops-tries: {error}"
             raise CommandError(Status.DEVICE, message) from None
+        refuse_numbers_twice(name, numbers)
         self._places = dict(_places(source))
 
     def __len__(self) -> int:
         return len(self._places)
 
     def get(self, number: int, /) -> Union[TriesItem, FaultyItem, None]:
-        """Returns what the text shows of a problem, the last one with this number."""
+        """Returns what the text shows of a problem."""
         if number not in self._places:
             return None
         start, length = self._places[number]
@@ -55,6 +55,15 @@ class KeptTries:
 
     def _refuse_changed(self) -> NoReturn:
         raise CommandError(Status.DEVICE, f"{self._name} was changed while it was read")
+
+
+def refuse_numbers_twice(name: str, numbers: Sequence[int]) -> None:
+    """Raises CommandError where a text has two problems with one number."""
+    seen: set[int] = set()
+    for number in numbers:
+        if number in seen:
+            raise CommandError(Status.DEVICE, f"{name} has problem {number} twice")
+        seen.add(number)
 
 
 def _places(source: BinaryIO) -> Iterator[tuple[int, tuple[int, int]]]:

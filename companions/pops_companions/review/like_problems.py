@@ -11,6 +11,7 @@ from typing import NamedTuple, Optional
 
 from pops_companions.report import lines
 from pops_companions.report.items import SoundItem
+from pops_companions.report.steps import Needs
 from pops_companions.review.judged_groups import JudgedGroup
 from pops_companions.review.judging import has_usual_men, is_judged_by_play
 from pops_companions.review.naming import joined_name
@@ -25,11 +26,14 @@ _NO_MEN = b".12345678 \n"
 
 
 class _Known(NamedTuple):
-    """What is said of each problem that shows the same: verdict, stipulation, the lines below."""
+    """What is said of each problem that shows the same: verdict, stipulation, the lines below; and what
+    its moves need on the board.
+    """
 
     verdict: str
     asked: str
     below: str
+    needs: Needs
 
 
 class _Name(NamedTuple):
@@ -112,6 +116,8 @@ class LikeProblems:
         known = None if head is None else self._known.get(text[head.end() : end])
         if head is None or known is None or not _are_usual(head[4].translate(None, _NO_MEN)):
             return None
+        if not known.needs.are_met(head[4]):
+            return None
         title, author = self._name(head[2]), self._name(head[3])
         if not self._apart and label_and_title(title.text)[1].text:
             return None
@@ -146,4 +152,5 @@ class LikeProblems:
             return
         tail = self._left.get(item.number)
         if tail and item.board is not None and is_judged_by_play(item):
-            self._known[tail] = _Known(one.verdict.value, item.asked, text.partition("\n")[2])
+            said = one.verdict.value, item.asked, text.partition("\n")[2]
+            self._known[tail] = _Known(*said, Needs(item.phases or ()))

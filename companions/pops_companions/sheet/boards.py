@@ -54,7 +54,7 @@ def _node_of(solution: Union[HelpLine, Node]) -> Node:
     if isinstance(solution, Node):
         return solution
     *before, last = solution.moves
-    node = Node(solution.text, last)
+    node = Node(solution.text, last, [])
     for move in reversed(before):
         node = Node(solution.text, move, [node])
     return node

@@ -1,0 +1,103 @@
+"""The checks of a tree of battle play, move by move: its levels, its leaves, moves twice, the men on the board."""
+
+from dataclasses import dataclass, field
+from enum import Enum
+from typing import NamedTuple, Optional
+
+from pops_companions.report.moves import PlayedMove
+from pops_companions.report.steps import Step
+
+# More than the half-moves of any stipulation that pops takes.
+MOST_LEVELS = 64
+
+
+class Detail(Enum):
+    """How deep the trees of a problem go."""
+
+    UNKNOWN = "not known yet"
+    # In set play with White's continuations, in a text of tries with those of threats and defences.
+    FIRST_MOVES = "the first moves"
+    TO_THE_GOAL = "to the goal"
+
+    # (a member is its own only equal; Enum's hash takes longer)
+    __hash__ = object.__hash__
+
+
+class KnownNode(NamedTuple):
+    """What a line of a tree says: its level, the whole line, its move, which levels the next move may
+    have, and what the move needs and changes on the board.
+
+    `parent` has the number of the move below which the line was seen last.
+    """
+
+    level: int
+    text: str
+    move: PlayedMove
+    least: int
+    most: int
+    parent: list[int]
+    step: Step
+
+
+KnownNodes = dict[bytes, KnownNode]
+
+
+@dataclass
+class TreeState:
+    """Where in a tree the reading is: the levels that the next move may have, for each level the board
+    before its moves and the number of the move above.
+    """
+
+    least: int = 0
+    most: int = 0
+    serial: int = 0
+    # None where no board is printed.
+    boards: Optional[list[int]] = None
+    parents: list[int] = field(default_factory=lambda: [0] * (MOST_LEVELS + 2))
+
+    def begin(self, board: Optional[int]) -> None:
+        """Begins a phase on a board."""
+        self.serial += 1
+        self.least = self.most = 0
+        self.parents[0] = self.serial
+        self.boards = None if board is None else [board] * (MOST_LEVELS + 2)
+
+    def begin_below(self, level: int) -> None:
+        """Goes on with moves of a level that follow the first move of the phase, whose level is 0."""
+        self.least = self.most = level
+        self.serial += 1
+        self.parents[level] = self.serial
+        if self.boards is not None:
+            self.boards[level] = self.boards[1]
+
+    def is_possible(self, step: Step, level: int) -> bool:
+        """Returns whether the men on the board of a level can make a move."""
+        return self.boards is None or self.boards[level] & step.mask == step.value
+
+    def plays(self, step: Step, level: int) -> bool:
+        """Plays a move of a level; returns whether it is possible."""
+        if self.boards is not None:
+            self.boards[level + 1] = self.boards[level] & step.kept | step.put
+        return self.is_possible(step, level)
+
+    def refusal(self, node: KnownNode) -> Optional[str]:
+        """Returns what is expected in place of a move; None for one that may stand here."""
+        level = node.level
+        if not self.least <= level <= self.most:
+            if level > self.most:
+                return "a move, or the number of solutions"
+            return "a move below the one above"
+        if node.parent[0] == self.parents[level]:
+            return "another move than the ones before"
+        if not self.is_possible(node.step, level):
+            return "a move that the men on the board can make"
+        return None
+
+    def add(self, node: KnownNode) -> None:
+        """Adds a move that isn't refused."""
+        level = node.level
+        node.parent[0] = self.parents[level]
+        self.serial += 1
+        self.parents[level + 1] = self.serial
+        self.plays(node.step, level)
+        self.least, self.most = node.least, node.most
