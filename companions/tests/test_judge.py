@@ -194,7 +194,7 @@ class Judging(support.InRoom):
     def unfinished(self, *words: str) -> Path:
         """The folder of a run on a problem that took longer."""
         self.text.write_bytes(ONE + b"EndProblem\n")
-        slow = self.slow("problem 1\\n#1\\nplay\\n")
+        slow = self.slow("problem 1\\ntitle: A mate\\n#1\\nplay\\n")
         self.assertEqual(self.judged("--seconds", "0.5", *words, pops=slow).status, 1)
         return self.room / "sheet.html.work"
 
@@ -522,15 +522,17 @@ class Judging(support.InRoom):
         self.assertIn("1.Qxg8+!", "".join(captures.words))
 
     def test_the_table_shows_each_threat_and_men_that_no_game_has(self) -> None:
-        """Three keys, of which one only waits, as a text of tries names them."""
+        """Three keys, of which one only waits, as report and text of tries name them."""
         threats = "\\n  threat\\n    2.Ra1-a8#\\n    2.Rb1-b8#\\n"
         keys = "".join(f"1.Kf6-{it}!{threats}" for it in ("f7", "g6"))
         play = f"play\\n1.Kf6-e6!\\n  zugzwang\\n{keys}solutions: 3\\ntries\\ntries: 0\\n\\n"
         tries = self.script("tries", f"cat > /dev/null\nprintf 'problem 1\\n#2\\n{play}'\n")
+        shown = "s/^1.Kf6-g6$/1.Kf6-e6\\n1.Kf6-f7\\n1.Kf6-g6/; s/: 1$/: 3/"
+        pops = self.script("three", f"'{support.pops()}' \"$@\" | sed '{shown}'\n")
         pawns = "Pa2c2d2e2f2g2h2a3c3"
         text = f"BeginProblem\nPieces White Kf6 Ra1b1 {pawns} Black Kh8\nStipulation #2\nEndProblem\n"
         self.text.write_text(text)
-        self.judged("--pops-tries", tries)
+        self.judged("--pops-tries", tries, pops=pops)
         self.assertEqual([row[5] for row in self.cells()], ["zugzwang, 2"])
         page = self.sheet.read_text("utf-8")
         self.assertIn("#2 <em>(no game: White has 9 pawns)</em></td>", page)

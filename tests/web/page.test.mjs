@@ -370,17 +370,6 @@ test('a text that is too long for the page is refused', () => {
   }
 });
 
-test('a text that replaces what is selected is as long as it is by itself', () => {
-  const long = remark => TEXT.replace('Stipulation', `Remark ${remark.repeat((1 << 22) + 1)}\nStipulation`);
-  for (const [from, wanted] of [[0, long('y')], [1, long('x')]]) {
-    begin(long('x'));
-    element('text').setSelectionRange(from, element('text').value.length);
-    pasteIntoBox(long('y'));
-    assert.equal(element('note').textContent.includes('would be longer'), from > 0);
-    assert.equal(textNow() === wanted, true);
-  }
-});
-
 test('faults: marks at their lines, until the text changes', () => {
   const text = TEXT.replace('#1', '#0');
   begin(text, 'problem 1\nline 3: fault 8: bad stipulation\n\n');
@@ -1370,4 +1359,15 @@ test('a long text that is pasted is read in slices', () => {
   begin(TEXT);
   paste('a '.repeat(1 << 21));
   assert.equal(textNow(), TEXT);
+});
+
+test('a text that replaces what is selected is as long as it is by itself', () => {
+  const long = remark => TEXT.replace('Stipulation', `Remark ${remark.repeat(7 << 20)}\nStipulation`);
+  for (const [from, wanted] of [[0, long('y')], [1, long('x')]]) {
+    begin(long('x'));
+    element('text').setSelectionRange(from, element('text').value.length);
+    pasteIntoBox(long('y'));
+    assert.equal(element('note').textContent.includes('would be longer'), from > 0);
+    assert.equal(textNow() === wanted, true);
+  }
 });
