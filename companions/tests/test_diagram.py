@@ -20,16 +20,16 @@ HREF = "{http://www.w3.org/1999/xlink}href"
 # The letters of the package diagram; U is upside down.
 LETTERS = {"K": "k", "D": "q", "T": "r", "L": "b", "S": "s", "B": "p", "DU": "g", "SU": "n"}
 BOARD = (
-    "8 k..r...r\n7 ........\n6 ........\n5 ........\n4 .N.n....\n3 ........\n2 ......P.\n"
+    "8 k..r...r\n7 ........\n6 ........\n5 ........\n4 .N.n....\n3 ...p....\n2 ......P.\n"
     "1 R...K.gG\n  abcdefgh\n"
 )
 MEN = {
-    **{"a8": "k", "d8": "r", "h8": "r", "b4": "N", "d4": "n"},
+    **{"a8": "k", "d8": "r", "h8": "r", "b4": "N", "d4": "n", "d3": "p"},
     **{"g2": "P", "a1": "R", "e1": "K", "g1": "g", "h1": "G"},
 }
 REPORT = (
     f"problem 1\ntitle: A & B <\nauthor: Loyd, Sam; #1\n{BOARD}h#2.5 Circe\nplay\n"
-    "1...Ra1-a3 2.Kg8-f8 Ra3*d3[+bPd7] 3.Kf8-e8 0-0#\nsolutions: 1\n\n"
+    "1...Ra1-a3 2.Ka8-b8 Ra3*d3[+bPd7] 3.Kb8-a8 Rd3-a3#\nsolutions: 1\n\n"
     "problem 2\nline 9: fault 11: no men\n\nproblem 3\n#1\nsound\n\n"
 )
 FAULTY = "pops-diagram: problem 2 is faulty: no diagram\n"
@@ -118,7 +118,7 @@ class Drawings(unittest.TestCase):
         root = ElementTree.fromstring(text)
         self.assertEqual(men_of_svg(text), MEN)
         self.assertEqual(root.findtext(f"{SVG}title"), "A & B <, Loyd, Sam; #1, h#2.5 Circe")
-        said = "White Ke1 Ra1 Pg2 Gh1 Nb4, Black Ka8 Rd8 Rh8 Gg1 Nd4"
+        said = "White Ke1 Ra1 Pg2 Gh1 Nb4, Black Ka8 Rd8 Rh8 Pd3 Gg1 Nd4"
         self.assertEqual(root.get("aria-label"), said)
 
     def test_latex_in_full(self) -> None:
@@ -128,12 +128,12 @@ class Drawings(unittest.TestCase):
             "\\begin{diagram}\n"
             "\\author{Loyd, Sam; {\\#1}, {}}\n"
             "\\dedic{A \\& B \\textless{}}\n"
-            "\\pieces[5+5]{wKe1, wTa1, wBg2, wDUh1, wSUb4, sKa8, sTd8h8, sDUg1, sSUd4}\n"
+            "\\pieces[5+6]{wKe1, wTa1, wBg2, wDUh1, wSUb4, sKa8, sTd8h8, sBd3, sDUg1, sSUd4}\n"
             "\\stipulation{h\\#2.5}\n"
             "\\condition{Circe}\n"
             "\\piecedefs{{ws}{DU}{Grasshopper}; {ws}{SU}{Nightrider}}\n"
             "\\solution{play\\newline\n"
-            "1...Ra1-a3 2.Kg8-f8 Ra3*d3[+bPd7] 3.Kf8-e8 0-0\\#\\newline\n"
+            "1...Ra1-a3 2.Ka8-b8 Ra3*d3[+bPd7] 3.Kb8-a8 Rd3-a3\\#\\newline\n"
             "solutions: 1}\n"
             "\\end{diagram}\n",
         )
@@ -176,14 +176,14 @@ class Drawings(unittest.TestCase):
         self.assertNotIn("\\dedic", made)
 
     def test_latex_of_a_tree(self) -> None:
-        play = "set\nnot possible\nplay\n1.Ra1-a2\n  1...Kh8-g8\n    2.Ra2-a8#\nsolutions: 1\n\n"
+        play = "set\nnot possible\nplay\n1.Ra1-a2\n  1...Ka8-b8\n    2.Ra2-a8#\nsolutions: 1\n\n"
         (text,) = drawn(f"problem 1\n{BOARD}#2\n{play}".encode(), "--latex").values()
         lines = [
             "\\solution{set",
             "not possible",
             "play",
             "1.Ra1-a2",
-            "\\hspace*{1em}1...Kh8-g8",
+            "\\hspace*{1em}1...Ka8-b8",
             "\\hspace*{2em}2.Ra2-a8\\#",
             "solutions: 1}",
         ]
