@@ -101,7 +101,7 @@ def _add_actions(parser: argparse.ArgumentParser) -> None:
 
 
 def _add_men(add: Callable[..., object]) -> None:
-    """Adds the options for what stands on the board."""
+    """Adds the options for men."""
     add("--men", metavar="MEN", help="find positions with these men, as 'White Kg6 Black Pa7'")
     add("--count", metavar="W+B", help="find positions by numbers of men, such as 3+4")
     add(

@@ -100,7 +100,7 @@ class ReportReader:
         self._detail = Detail.UNKNOWN
         # Whether only the next line shows how deep the trees go.
         self._is_undecided = False
-        # What lines of battle play say, by what is asked and how deep the trees go.
+        # What lines of battle play say, by the form of the text and how deep the trees go.
         self._known: dict[_Asked, KnownNodes] = {}
         self._known_here: KnownNodes = {}
         self._known_count = 0

@@ -12,7 +12,7 @@ from pops_companions.chess.men import GAITS, Colour, Gait, Kind, Man, Square
 from pops_companions.report.items import HelpLine, Node, Phase
 from pops_companions.report.moves import Castling, PlayedMove, Rebirth, read_move
 
-# The bits that tell men from the point of an empty square, and the ones that tell the colours too.
+# The bits by which a man differs from the point of an empty square, and with them the bit of its colour.
 _IS_MAN = 0x40
 _OF_COLOUR = {Colour.WHITE: (0x60, 0x40), Colour.BLACK: (0x60, 0x60)}
 _ALL = 0xFF
@@ -166,7 +166,7 @@ def _castling_step(move: PlayedMove, castling: Castling) -> Step:
 
 
 def _need_way(wanted: _Wanted, man: Man, move: PlayedMove) -> bool:
-    """Adds what stands between the squares of a move; returns whether the man can make such a move."""
+    """Adds what stands between the squares of a move; returns whether the man can make it."""
     between = squares_between(man, move.origin, move.arrival)
     if between is None or move.promotion is not None or move.en_passant:
         return False
@@ -180,7 +180,7 @@ def _need_way(wanted: _Wanted, man: Man, move: PlayedMove) -> bool:
 
 
 def _need_pawn(wanted: _Wanted, move: PlayedMove) -> bool:
-    """Adds what a pawn's move needs beyond its squares; returns whether a pawn can make such a move."""
+    """Adds what a pawn's move needs beyond its squares; returns whether a pawn can make it."""
     forward, first = (1, 2) if move.side is Colour.WHITE else (-1, 7)
     files, ranks = move.arrival.file - move.origin.file, move.arrival.rank - move.origin.rank
     if move.origin.rank in _PROMOTION_RANKS:

@@ -15,7 +15,7 @@ class Detail(Enum):
     """How deep the trees of a problem go."""
 
     UNKNOWN = "not known yet"
-    # In set play with White's continuations, in a text of tries with those of threats and defences.
+    # In set play with White's continuations, in a text of tries with continuations of threats and defences.
     FIRST_MOVES = "the first moves"
     TO_THE_GOAL = "to the goal"
 

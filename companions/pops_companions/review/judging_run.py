@@ -255,7 +255,7 @@ class Work:
         return replace(item, number=number)
 
     def leave_out_others(self, tries: dict[int, TriesItem]) -> None:
-        """Leaves out, and notes, the tries of each problem whose keys aren't those of its report."""
+        """Leaves out, and notes, the tries of each problem that has other keys in its report."""
         # (judging the report says where it can't be read)
         with open(self.report, "rb") as source, suppress(ReportError):
             for item in read_unfinished_report(source):

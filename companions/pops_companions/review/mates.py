@@ -188,7 +188,7 @@ def _echoes(mates: Iterable[Mate]) -> Iterator[set[tuple[int, Picture]]]:
 def mates_in(item: SoundItem, letters: str) -> list[str]:
     """Returns what the mates of a help mate are; nothing for other problems, or under a condition.
 
-    `letters` are those of its diagram.
+    `letters` is the board of its diagram.
     """
     is_help_mate = item.stipulation.play is Play.HELP and item.stipulation.goal is Goal.MATE
     if not is_help_mate or item.condition is not None:
