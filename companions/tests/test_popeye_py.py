@@ -151,7 +151,7 @@ class Command(support.InRoom):
         liar = self.write_program("tries", f"#!/bin/sh\ncat > /dev/null\ncat '{self.room}/shown'\n")
         for shown, why in (
             (half, "tries ended with status 0"),
-            (whole.replace(b"pp......", b"ppp....."), "pops-tries shows another problem than pops"),
+            (whole.replace(b"5 ........", b"5 .......p"), "pops-tries shows another problem than pops"),
         ):
             (self.room / "shown").write_bytes(shown)
             outcome = solved(text.decode(), "--pops-tries", liar)

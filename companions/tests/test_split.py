@@ -244,8 +244,8 @@ class Texts(unittest.TestCase):
                 self.assertEqual(count_in(report), count)
 
     def test_pieces_up_to_totals(self) -> None:
-        text = b"1.a\nsolutions: 1\nsolutions: 0, stopped\n1.b solutions: 2\nsolutions: x\n1.c"
-        wanted = [(b"1.a\nsolutions: 1\n", True), (b"solutions: 0, stopped\n", True)]
+        text = b"1.a\nsolutions: 1\nsolutions: 1, stopped\n1.b solutions: 2\nsolutions: x\n1.c"
+        wanted = [(b"1.a\nsolutions: 1\n", True), (b"solutions: 1, stopped\n", True)]
         wanted += [(b"1.b solutions: 2\nsolutions: x\n", False), (b"1.c", False)]
         self.assertEqual(list(up_to_totals([text])), wanted)
         for size in range(1, len(text)):
