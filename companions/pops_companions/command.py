@@ -437,7 +437,7 @@ def try_out(file: Optional[str]) -> None:
         if os.path.isdir(real):
             raise IsADirectoryError(errno.EISDIR, os.strerror(errno.EISDIR))
         if not files.is_device(file):
-            files.try_out(f"{real}.{os.urandom(6).hex()}", real)
+            files.try_out(files.unfinished_name(real), real)
     except OSError as error:
         raise CommandError(Status.DEVICE, f"cannot write {file}: {error.strerror}") from None
 

@@ -17,6 +17,8 @@ _LIST = "system.posix_acl_access"
 # Where the system names the files that a process has open, by the process and by their numbers.
 _OPEN_FILE = re.compile("/(?:dev|proc/([0-9]+)(?:/task/[0-9]+)?)/fd/([0-9]{1,9})")
 _MOST_LINKS = 40
+# The bytes of the longest name that the systems take.
+_LONGEST_NAME = 255
 
 
 class Links(Enum):
@@ -70,6 +72,17 @@ def real_of(path: str, links: Links) -> str:
     return os.path.join(os.path.realpath(folder), name)
 
 
+def unfinished_name(real: str, end: Optional[str] = None) -> str:
+    """Returns the name of a file until it is whole: its own, cut where the system takes none so long, and
+    an end, by default one that nobody can guess.
+    """
+    end = f".{end or os.urandom(6).hex()}"
+    folder, name = os.path.split(real)
+    while len(os.fsencode(name + end)) > _LONGEST_NAME:
+        name = name[:-1]
+    return os.path.join(folder, name + end)
+
+
 @contextmanager
 def written_whole(
     path: str, unfinished: Optional[str] = None, links: Links = Links.FOLLOWED
@@ -87,7 +100,7 @@ def written_whole(
         return
     real = real_of(path, links)
     before = _kept(real)
-    name = unfinished or f"{real}.{os.urandom(6).hex()}"
+    name = unfinished or unfinished_name(real)
     if unfinished is not None:
         remove(unfinished)
     try:

@@ -8,6 +8,7 @@ import unittest
 from unittest import mock
 
 from pops_companions import files
+from pops_companions.many.targets import Target
 from tests import support
 
 _LIST = "system.posix_acl_access"
@@ -28,6 +29,24 @@ class Page(support.InRoom):
             program = [sys.executable, "-B", "-c", words.format(str(support.REPOSITORY / "page"))]
             subprocess.run(program, stdout=output, check=True)
         self.assertEqual(log.read_bytes(), b"old\npage")
+
+
+class Names(support.InRoom):
+    def test_the_longest_names(self) -> None:
+        long = ("x" * 255, "y" * 243, "\u0434" * 127, "\u0434" * 122 + ".html", "z" * 242, "\udcff" * 255)
+        for name in long:
+            with files.written_whole(str(self.room / name)) as file:
+                file.write(b"whole")
+                (begun,) = os.listdir(self.room)
+                self.assertRegex(begun, r"\.[0-9a-f]{12}$")
+                self.assertTrue(name.startswith(begun[:-13]))
+            self.assertEqual((self.room / name).read_bytes(), b"whole")
+            target = Target(str(self.room / name), b"0" * 64)
+            target.try_out()
+            with target.opened() as file:
+                file.write(b"again")
+            self.assertEqual(os.listdir(self.room), [name])
+            (self.room / name).unlink()
 
 
 class Readers(support.InRoom):

@@ -21,7 +21,7 @@ class Target:
         self.path = path
         self._links = links
         self._real = files.real_of(path, links)
-        self._temporary = f"{self._real}.{run.decode('ascii')[:12]}"
+        self._temporary = files.unfinished_name(self._real, run.decode("ascii")[:12])
 
     @property
     def is_device(self) -> bool:
