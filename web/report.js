@@ -215,7 +215,7 @@ export function itemsOf(report) {
 export const labelOf = move => move.label.replace(/^([0-9]+\.+)?/, (Math.floor((move.half + 1) / 2)) + (move.half % 2 ? '.' : '...'));
 
 /**
- * Makes the rows of a phase: each row has its moves and the rows below it, which are made when they are asked for. Lines of help play with
+ * Makes the rows of a phase: each row has its moves and, made only once they are shown, the rows below it. Lines of help play with
  * the same beginning share its rows.
  * @param {Phase} phase
  * @param {boolean} isHelp
