@@ -505,8 +505,19 @@ twins: {b: Move a1 b1}
             outcome = run_here.companion(
                 "pops-export", *words, text=TWINS.split(b"Twin")[0] + b"End"
             )
-        self.assertEqual((outcome.status, outcome.output), (1, b""))
+        self.assertEqual((outcome.status, outcome.output), (3, b""))
         self.assertIn("problem 1 is #1 there, not h#1", outcome.error)
+
+    def test_a_text_that_is_no_report(self) -> None:
+        with tempfile.TemporaryDirectory() as room:
+            report = Path(room) / "no.report"
+            for text in (b"", b"problem 1\n#1\nsound", b"begin\n"):
+                report.write_bytes(text)
+                words = ["--to", "yaml", "--report", str(report)]
+                outcome = run_here.companion("pops-export", *words, text=TWINS)
+                with self.subTest(text):
+                    self.assertEqual((outcome.status, outcome.output), (3, b""))
+                    self.assertIn(str(report), outcome.error)
 
 
 class Document(unittest.TestCase):

@@ -289,17 +289,15 @@ class Collection:
     def near(self, board: str) -> list[Found]:
         """Returns the problems of which at most one man differs, moved over the board or not."""
         by_hash: dict[int, list[Variant]] = {}
-        for variant in variants(board):
+        for variant in sorted(variants(board), key=lambda one: len(one.how)):
             for one in hashes(variant.board):
                 by_hash.setdefault(one, []).append(variant)
         best: dict[int, Found] = {}
         for one, number, entry in self._with_hashes(list(by_hash)):
-            for variant in by_hash[one]:
-                changes = tuple(differences(variant.board, entry.board))
-                found = Found(entry, variant.how, changes)
-                if len(changes) <= 1 and (number not in best or _nearer(found, best[number])):
-                    best[number] = found
-        return [found for _, found in sorted(best.items(), key=_nearest_first)]
+            found = _simplest(by_hash[one], entry)
+            if found is not None and (number not in best or _rank(found) < _rank(best[number])):
+                best[number] = found
+        return [best[number] for number in sorted(best, key=lambda it: (*_rank(best[it]), it))]
 
     def _with_hashes(self, wanted: Sequence[int]) -> Iterator[tuple[int, int, Entry]]:
         """Yields the problems of these hashes, with hash and number.
@@ -424,14 +422,17 @@ def _escaped(text: str) -> str:
     return text
 
 
+def _simplest(variants: Iterable[Variant], entry: Entry) -> Optional[Found]:
+    """Returns the first variant, the simplest one, that a problem differs from by at most a man.
+
+    (All variants of one man have a hash in common: the one without it.)
+    """
+    for variant in variants:
+        changes = tuple(differences(variant.board, entry.board))
+        if len(changes) <= 1:
+            return Found(entry, variant.how, changes)
+    return None
+
+
 def _rank(found: Found) -> tuple[int, int]:
     return len(found.changes), len(found.how)
-
-
-def _nearer(found: Found, other: Found) -> bool:
-    return _rank(found) < _rank(other)
-
-
-def _nearest_first(numbered: tuple[int, Found]) -> tuple[int, int, int]:
-    number, found = numbered
-    return (*_rank(found), number)

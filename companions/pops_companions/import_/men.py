@@ -1,7 +1,7 @@
 """Men and squares among the words of a text."""
 
 import re
-from collections.abc import Mapping
+from collections.abc import Mapping, Sequence
 from typing import NamedTuple
 
 from pops_companions.chess.men import Colour, Kind, Man, Square
@@ -59,7 +59,8 @@ def read_men(words: Words) -> list[PlacedMan]:
     """Colours and men, up to the first word that is neither."""
     language = words.language
     men: list[PlacedMan] = []
-    colour, attributes = "", ""
+    colour = ""
+    attributes: list[str] = []
     while True:
         word = words.peek()
         if word is None:
@@ -67,10 +68,11 @@ def read_men(words: Words) -> list[PlacedMan]:
         named = meaning(word.key, language.colours)
         if named is not None:
             words.take()
-            colour, attributes = named, ""
+            colour, attributes = named, []
         elif is_attribute(word.key):
-            words.take()
-            attributes += word.text.title() + " "
+            # (each once: every man is named by all of them)
+            attribute = words.take().text.title()
+            attributes += [attribute] * (attribute not in attributes)
         else:
             letters, squares = _man_word(words, word)
             if not letters:
@@ -93,11 +95,13 @@ def _man_word(words: Words, word: Word) -> tuple[str, list[Square]]:
     return found[1], squares_of(found[2])
 
 
-def _man(colour: str, attributes: str, letters: str, kinds: Mapping[str, Kind]) -> Placed:
+def _man(
+    colour: str, attributes: Sequence[str], letters: str, kinds: Mapping[str, Kind]
+) -> Placed:
     kind = kinds.get(letters)
     if kind is not None and colour != "neutral" and not attributes:
         return Man(Colour(colour), kind)
-    return f"{colour} {attributes}{letters.upper()}"
+    return " ".join((colour, *attributes, letters.upper()))
 
 
 def read_forsyth(text: str, kinds: Mapping[str, Kind]) -> dict[Square, Placed]:
@@ -131,7 +135,7 @@ def read_forsyth(text: str, kinds: Mapping[str, Kind]) -> dict[Square, Placed]:
             colour = "white" if letters[0].isupper() else "black"
             if at < 64:
                 shown = "neutral" if found["neutral"] else colour
-                men[diagram[at]] = _man(shown, "", letters.lower(), kinds)
+                men[diagram[at]] = _man(shown, (), letters.lower(), kinds)
             at += 1
     if at != 64:
         raise ValueError(f"{at} squares instead of 64")

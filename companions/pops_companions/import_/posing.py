@@ -15,8 +15,10 @@ from pops_companions.input.given import LONGEST_TEXT
 from pops_companions.input.reading import MOST_MOVES
 from pops_companions.input.writing import pieces_line
 
-# How much of what is said of a whole problem its further twins repeat: Origins, and notes.
+# How much of what is said of a whole problem its further twins repeat: Origins, and notes, and how
+# many letters of each.
 _MOST_REPEATED = 20
+_MOST_LETTERS = 1000
 # How much of a stipulation or a condition that pops doesn't know is repeated, for each twin.
 _MOST_QUOTED = 100
 # The label of the problem that twins are made of.
@@ -323,12 +325,23 @@ def _texts(said: _Said, version: _Version, notes: list[Message], is_first: bool)
             notes.append(Message(version.line, shortened))
         if text or label:
             lines.append(" ".join(filter(None, (command.value, text, label))))
-    most = None if is_first else _MOST_REPEATED
-    lines += [f"Origin {text}" for text in said.origins[:most]]
+    origins, told = said.origins, [note.text for note in said.notes]
+    if not is_first:
+        origins, told = _repeated(origins), _repeated(told)
+    lines += [f"Origin {text}" for text in origins]
     remarks += [*(said.remarks if is_first else ()), *said.wanted, *version.remarks]
-    remarks += [note.text for note in [*said.notes[:most], *notes]]
+    remarks += [*told, *(note.text for note in notes)]
     lines += [f"Remark {remark}" for remark in remarks if remark]
     return [line.replace("\n", " ") for line in lines]
+
+
+def _repeated(texts: list[str]) -> list[str]:
+    """Returns the texts that further twins repeat: the first ones, as far as there is room."""
+    end, letters = 0, 0
+    while end < min(len(texts), _MOST_REPEATED) and letters + len(texts[end]) <= _MOST_LETTERS:
+        letters += len(texts[end])
+        end += 1
+    return texts[:end]
 
 
 def _quoted(text: str) -> str:
