@@ -9,7 +9,7 @@ from collections.abc import Iterable, Iterator, Mapping, Sequence
 from typing import Optional
 
 from pops_companions.export.problems import Exported
-from pops_companions.chess.men import LETTERS
+from pops_companions.chess.men import LETTERS, Square
 from pops_companions.export.yaml_fields import Fields, Source, Value, fields_of, put, source_of
 from pops_companions.report.items import SoundItem
 from pops_companions.show.authors import persons
@@ -143,8 +143,7 @@ def _men(pieces: str) -> "dict[str, list[str]]":
             colour = word.lower()
             men[colour] = []
         else:
-            squares = (found[2][place : place + 2] for place in range(0, len(found[2]), 2))
-            men[colour].extend(found[1] + square for square in squares)
+            men[colour] += [found[1] + square.name for square in Square.of_names(found[2])]
     return men
 
 

@@ -138,7 +138,7 @@ class Collection:
             self._data.create_function("folded", 1, _folded)
             if new:
                 with self._whole("IMMEDIATE"):
-                    if not self._tables():
+                    if not self._data.execute("SELECT 1 FROM sqlite_master").fetchone():
                         self._make()
             (form,) = self._asked("PRAGMA application_id").fetchone()
         except sqlite3.Error as error:
@@ -214,9 +214,6 @@ class Collection:
 
     def _has_keywords(self) -> bool:
         return any(row[1] == "keywords" for row in self._asked("PRAGMA table_info(problems)"))
-
-    def _tables(self) -> int:
-        return int(self._data.execute("SELECT count(*) FROM sqlite_master").fetchone()[0])
 
     def _make(self) -> None:
         """Makes the tables and the mark, all or nothing, within the transaction at hand."""
@@ -417,9 +414,7 @@ def _is_within(date: str, dates: tuple[str, str]) -> bool:
 
 
 def _escaped(text: str) -> str:
-    for sign in "\\%_":
-        text = text.replace(sign, "\\" + sign)
-    return text
+    return re.sub(r"[\\%_]", r"\\\g<0>", text)
 
 
 def _simplest(variants: Iterable[Variant], entry: Entry) -> Optional[Found]:

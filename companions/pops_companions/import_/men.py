@@ -22,11 +22,6 @@ class PlacedMan(NamedTuple):
     line: int
 
 
-def squares_of(text: str) -> list[Square]:
-    """Returns the squares of a word that holds nothing else."""
-    return [Square.of_name(text[place : place + 2]) for place in range(0, len(text), 2)]
-
-
 def is_of_squares(word: Word) -> bool:
     return _SQUARES.fullmatch(word.key) is not None
 
@@ -37,7 +32,7 @@ def take_squares(words: Words, what: str) -> list[Square]:
     if word is None or not is_of_squares(word):
         found = "the end" if word is None else word.text
         raise Unreadable(words.line, f"{what} wants squares, as e4, and {found} follows")
-    return squares_of(words.take().key)
+    return Square.of_names(words.take().key)
 
 
 def take_pair(words: Words, what: str) -> tuple[Square, Square]:
@@ -61,10 +56,7 @@ def read_men(words: Words) -> list[PlacedMan]:
     men: list[PlacedMan] = []
     colour = ""
     attributes: list[str] = []
-    while True:
-        word = words.peek()
-        if word is None:
-            return men
+    for word in words.ahead():
         named = meaning(word.key, language.colours)
         if named is not None:
             words.take()
@@ -76,11 +68,12 @@ def read_men(words: Words) -> list[PlacedMan]:
         else:
             letters, squares = _man_word(words, word)
             if not letters:
-                return men
+                break
             if not colour:
                 raise Unreadable(word.line, f"a colour is missing before {word.text}")
             man = _man(colour, attributes, letters, language.letters)
             men.extend(PlacedMan(square, man, word.line) for square in squares)
+    return men
 
 
 def _man_word(words: Words, word: Word) -> tuple[str, list[Square]]:
@@ -92,7 +85,7 @@ def _man_word(words: Words, word: Word) -> tuple[str, list[Square]]:
     if found is None:
         return "", []
     words.take()
-    return found[1], squares_of(found[2])
+    return found[1], Square.of_names(found[2])
 
 
 def _man(

@@ -6,13 +6,13 @@ from dataclasses import dataclass, field, replace
 from typing import NamedTuple, Optional
 
 from pops_companions.chess.men import Colour, Kind, Man, Square
-from pops_companions.chess.stipulation import Condition, Goal, Play, Stipulation
+from pops_companions.chess.stipulation import Condition, Goal, Stipulation
 from pops_companions.import_.draft import Draft, Impossible, Options, Setting
 from pops_companions.import_.language import Command
 from pops_companions.import_.twins import with_other_colour
 from pops_companions.import_.words import Message
 from pops_companions.input.given import LONGEST_TEXT
-from pops_companions.input.reading import MOST_MOVES
+from pops_companions.input.reading import en_passant_wants
 from pops_companions.input.writing import pieces_line
 
 # How much of what is said of a whole problem its further twins repeat: Origins, and notes, and how
@@ -218,9 +218,8 @@ class _Checked:
             return None
         if self._version.options.white_to_play:
             stipulation = self._with_white_to_play(stipulation)
-        least, most = (0, MOST_MOVES - 1) if stipulation.half_more else (1, MOST_MOVES)
-        if not least <= stipulation.moves <= most:
-            shown = _quoted(text)
+        if not stipulation.is_in_range:
+            shown, least, most = _quoted(text), stipulation.least_moves, stipulation.most_moves
             self.faults.append(f"stipulation {shown} has more or fewer moves than {least} to {most}")
         return stipulation
 
@@ -254,7 +253,7 @@ class _Checked:
         for square, man in self._men.items():
             if man.kind is Kind.PAWN and square.rank in (1, 8):
                 self.faults.append(f"a pawn is on {square.name}")
-        mated = Colour.WHITE if stipulation.play is Play.SELF else Colour.BLACK
+        mated = stipulation.last_side.opponent
         men = list(self._men.values())
         for colour in Colour:
             kings = men.count(Man(colour, Kind.KING))
@@ -279,14 +278,7 @@ class _Checked:
             self.faults.append(f"no pawn can just have crossed {name}")
 
     def _was_crossed(self, square: Square, starter: Colour) -> bool:
-        rank, step = (6, 1) if starter is Colour.WHITE else (3, -1)
-        home, arrival = Square(square.file, rank + step), Square(square.file, rank - step)
-        return (
-            square.rank == rank
-            and square not in self._men
-            and home not in self._men
-            and self._men.get(arrival) == Man(starter.opponent, Kind.PAWN)
-        )
+        return en_passant_wants(self._men, starter, square).holds
 
     def lines(self) -> list[str]:
         """Returns men, stipulation, condition and options."""

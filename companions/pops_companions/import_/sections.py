@@ -33,12 +33,8 @@ def wanted_of(text: str) -> Optional[int]:
 def take_wanted(words: Words) -> tuple[Optional[int], str]:
     """Takes a number of solutions with points after a stipulation, as 2.1..; and its text."""
     word = words.peek()
-    if word is None or "." not in word.text:
-        return None, ""
-    wanted = wanted_of(word.text)
-    if wanted is None:
-        return None, ""
-    return wanted, words.take().text
+    wanted = None if word is None or "." not in word.text else wanted_of(word.text)
+    return (None, "") if wanted is None else (wanted, words.take().text)
 
 
 def take_stipulation(words: Words) -> str:
@@ -73,10 +69,7 @@ def take_conditions(words: Words, before: tuple[str, ...] = ()) -> tuple[str, ..
     A condition that stands twice is one.
     """
     conditions: list[str] = []
-    while True:
-        word = words.peek()
-        if word is None:
-            break
+    for word in words.ahead():
         if _is_command(word, words):
             break
         twinning = meaning(word.key, words.language.twinnings)
