@@ -18,12 +18,6 @@ from pops_companions.input.writing import Wishes, is_turned, problem_of_position
 NAME = "fen2pop"
 # At most this many positions with reversed colours are named.
 _TURNED_NAMED = 3
-# Options that stand in each problem as a word.
-_OPTIONS = (
-    ("--set-play", "SetPlay", "show set play too"),
-    ("--variation", "Variation", "show defences and continuations"),
-    ("--no-board", "NoBoard", "print no board"),
-)
 # A tag of a game in PGN, as `[White "Morphy"]` (PGN Standard, section 8.1).
 _TAG = re.compile(r'\[\s*(\w+)\s+"((?:[^"\\]|\\.)*)"\s*\]')
 
@@ -148,8 +142,28 @@ def mate_of(position: Position) -> Optional[Stipulation]:
 def _add_options(parser: argparse.ArgumentParser) -> None:
     """Adds the options that stand in each problem."""
     add = parser.add_argument
-    for name, word, what in _OPTIONS:
-        add(name, action="append_const", dest="options", const=word, default=[], help=what)
+    add(
+        "--set-play",
+        action="append_const",
+        dest="options",
+        const="SetPlay",
+        default=[],
+        help="show set play too",
+    )
+    add(
+        "--variation",
+        action="append_const",
+        dest="options",
+        const="Variation",
+        help="show defences and continuations",
+    )
+    add(
+        "--no-board",
+        action="append_const",
+        dest="options",
+        const="NoBoard",
+        help="print no board",
+    )
     add(
         "--max-solutions",
         metavar="N",
