@@ -24,6 +24,7 @@ from unittest import mock
 from pops_companions.import_.language import ENGLISH, FRENCH, GERMAN, meaning
 from pops_companions.import_.origins import date_text, origin_of
 from pops_companions.import_.sections import wanted_of
+from pops_companions.import_.sources import read_drafts
 from pops_companions.import_.yaml_text import YamlError, documents
 from tests import run_here, support
 
@@ -419,6 +420,16 @@ class Texts(unittest.TestCase):
                 self.assertIn("Origin x", problems[0])
                 self.assertIn("Remark skipped before the first problem: x", problems[0])
                 self.assertLess(max(map(len, problems[1:])), 3000)
+
+    def test_many_conditions(self) -> None:
+        """The first ones are enough to leave the problem out; each section would copy all of them."""
+        sections = "".join(f"Condition c{number}\n" for number in range(1000))
+        given = f"BeginProblem\nPieces White Kg6 Black Kh8\nStipulation h#1\n{sections}EndProblem\n"
+        (draft,) = read_drafts(given)
+        self.assertEqual(draft.setting.conditions, tuple(f"c{number}" for number in range(100)))
+        told = "".join(imported_text(given.encode()).told)
+        self.assertIn("left out: pops knows no condition c0 c1 c2 c3 ", told)
+        self.assertLess(len(told), 200)
 
     def test_attributes_are_named_once(self) -> None:
         """Each man and each twin would repeat them."""

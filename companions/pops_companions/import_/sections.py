@@ -9,8 +9,8 @@ from pops_companions.import_.words import Unreadable, Word, Words
 
 _LEAST_LETTERS = 3
 _CONDITIONS = table_of((condition.value, condition.value) for condition in Condition)
-
-
+# pops knows no two at once, and a message names fewer.
+_MOST_CONDITIONS = 100
 # As 2, 2.1.1.1 and 2.1..: how many solutions there are, by how many half-moves they part.
 _MOST_WANTED = 999_999_999
 _WANTED = re.compile(r"[1-9][0-9]{0,8}(\.[1-9][0-9]{0,8})*\.*")
@@ -78,4 +78,4 @@ def take_conditions(words: Words, before: tuple[str, ...] = ()) -> tuple[str, ..
         words.take()
         known = meaning(word.key, _CONDITIONS) if len(word.key) >= _LEAST_LETTERS else None
         conditions.append(known or word.text)
-    return tuple(dict.fromkeys(before + tuple(conditions)))
+    return tuple(dict.fromkeys(before + tuple(conditions)))[:_MOST_CONDITIONS]
