@@ -216,7 +216,7 @@ class Command(support.InRoom):
 
     def test_an_empty_report(self) -> None:
         outcome = command(str(self.input), "-", text=b"")
-        self.assertEqual((outcome.status, outcome.output), (1, b""))
+        self.assertEqual((outcome.status, outcome.output), (3, b""))
         said = f"pops-explain: standard input is no report of {self.input}: it is empty\n"
         self.assertEqual(outcome.error, said)
 
@@ -230,7 +230,7 @@ class Command(support.InRoom):
             with self.subTest(text):
                 other.write_bytes(text)
                 outcome = command(str(other), str(self.report))
-                self.assertEqual((outcome.status, outcome.output), (1, b""))
+                self.assertEqual((outcome.status, outcome.output), (3, b""))
                 self.assertIn(said, outcome.error)
 
     def test_reports_that_have_more_problems(self) -> None:
@@ -242,7 +242,7 @@ class Command(support.InRoom):
         ]:
             with self.subTest(more):
                 outcome = command(str(self.input), "-", text=report + more)
-                self.assertEqual(outcome.status, 1)
+                self.assertEqual(outcome.status, 3)
                 self.assertIn(said, outcome.error)
                 self.assertTrue(outcome.output.decode().startswith(f"{self.input}:3:"))
 
@@ -337,4 +337,4 @@ class Json(unittest.TestCase):
             text.write_bytes(sound)
             report.write_bytes(b"problem 1\nline 2: fault 5: square given twice\n\n")
             outcome = support.companion("pops-explain", "--json", str(text), str(report))
-        self.assertEqual((outcome.status, outcome.output), (1, b""))
+        self.assertEqual((outcome.status, outcome.output), (3, b""))

@@ -33,6 +33,7 @@ Twin Continued Add White Rc1, Black Pa7
 Twin Rotate 180 Stipulation h=1
 EndProblem
 """
+MEN = "Pieces White Kg6 Ra1 Black Kh8\nStipulation h#1"
 
 
 class Same(NamedTuple):
@@ -78,6 +79,24 @@ class RoundTrips(unittest.TestCase):
                         self.assertEqual(same(exported(form, *words, str(path))), wanted)
                         tried += 1
         self.assertGreater(tried, 200)
+
+    def test_characters_that_yaml_allows_only_as_codes(self) -> None:
+        for sign in "\x7f\x80\x85\x8f\x9f\u2028\u2029\ufeff\ufffe\uffff":
+            texts = f"Title a{sign}b\nOrigin e{sign}f\nRemark solution: g{sign}h"
+            with self.subTest(sign):
+                self.assertEqual(self.back(texts), texts)
+
+    def test_a_key_that_reads_as_nothing(self) -> None:
+        for key in ("award.null", "award.Null.a", "award.null.NULL"):
+            with self.subTest(key):
+                self.assertEqual(self.back(f"Title a\nRemark {key}: b"), f"Title a\nRemark {key}: b")
+
+    def back(self, texts: str) -> str:
+        """Returns the text lines of a problem after an export to YAML and an import."""
+        text = f"BeginProblem\n{texts}\n{MEN}\nEndProblem\n".encode()
+        made = run_here.companion("pops-import", text=exported("yaml", text=text).encode())
+        self.assertEqual(made.status, 0, made.error)
+        return made.output.decode().partition("\n")[2].partition(f"\n{MEN}")[0]
 
     def test_what_pops_reports_of_them(self) -> None:
         """The text that comes back has the same report, titles and all."""
@@ -505,8 +524,19 @@ twins: {b: Move a1 b1}
             outcome = run_here.companion(
                 "pops-export", *words, text=TWINS.split(b"Twin")[0] + b"End"
             )
-        self.assertEqual((outcome.status, outcome.output), (1, b""))
+        self.assertEqual((outcome.status, outcome.output), (3, b""))
         self.assertIn("problem 1 is #1 there, not h#1", outcome.error)
+
+    def test_a_text_that_is_no_report(self) -> None:
+        with tempfile.TemporaryDirectory() as room:
+            report = Path(room) / "no.report"
+            for text in (b"", b"problem 1\n#1\nsound", b"begin\n"):
+                report.write_bytes(text)
+                words = ["--to", "yaml", "--report", str(report)]
+                outcome = run_here.companion("pops-export", *words, text=TWINS)
+                with self.subTest(text):
+                    self.assertEqual((outcome.status, outcome.output), (3, b""))
+                    self.assertIn(str(report), outcome.error)
 
 
 class Document(unittest.TestCase):

@@ -205,6 +205,20 @@ class Near(support.InRoom):
             ],
         )
 
+    def test_positions_of_one_man(self) -> None:
+        """All are near each other in many ways, of which the simplest is looked for."""
+        squares = [f"{file}{rank}" for file in "abcdefgh" for rank in "1234"]
+        positions = [f"White K{square}" for square in squares]
+        self.collection.add("some.pop", [entry(n, it) for n, it in enumerate(positions, 1)])
+        with mock.patch("pops_companions.find.collection.differences", wraps=differences) as looks:
+            hits = self.collection.near(board("White Ka1"))
+        texts = {hit.entry.number: hit.text for hit in hits}
+        self.assertEqual((len(texts), texts[1]), (len(squares), "the same position"))
+        self.assertEqual(texts[squares.index("h4") + 1], "shifted 7 right and 3 up")
+        self.assertEqual(texts[squares.index("b1") + 1], "shifted 1 right")
+        # (once for the whole position, once for the one without its man)
+        self.assertLessEqual(looks.call_count, 2 * len(squares))
+
     def test_plain_comparison_of_made_positions(self) -> None:
         """All positions one man apart are found, and no others: each is compared with each."""
         chance = random.Random(61)

@@ -24,6 +24,7 @@ from unittest import mock
 from pops_companions.import_.language import ENGLISH, FRENCH, GERMAN, meaning
 from pops_companions.import_.origins import date_text, origin_of
 from pops_companions.import_.sections import wanted_of
+from pops_companions.import_.sources import read_drafts
 from pops_companions.import_.yaml_text import YamlError, documents
 from tests import run_here, support
 
@@ -407,6 +408,36 @@ class Texts(unittest.TestCase):
         self.assertEqual(made.output.count(b"Remark both\n"), 1)
         self.assertIn(b"Title b)\nRemark both\n", made.output)
 
+    def test_long_texts_of_a_problem_stand_with_its_first_twin(self) -> None:
+        """An Origin, and what was skipped before the problem: each twin would repeat them."""
+        for long in ("x" * 2000, "x " * 1000, "x\n" * 30):
+            origins = "".join(f"Origin {line}\n" for line in long.splitlines())
+            text = f"{long}\nBeginProblem\n{origins}Pieces White Kg6 Ra1 Black Kh8\nStipulation h#1\n"
+            with self.subTest(long[:3]):
+                made = imported_text(f"{text}{'Twin Move a1 b2 ' * 100}EndProblem".encode())
+                problems = re.split("NextProblem\n", made.output.decode())
+                self.assertEqual(len(problems), 101)
+                self.assertIn("Origin x", problems[0])
+                self.assertIn("Remark skipped before the first problem: x", problems[0])
+                self.assertLess(max(map(len, problems[1:])), 3000)
+
+    def test_many_conditions(self) -> None:
+        """The first ones are enough to leave the problem out; each section would copy all of them."""
+        sections = "".join(f"Condition c{number}\n" for number in range(1000))
+        given = f"BeginProblem\nPieces White Kg6 Black Kh8\nStipulation h#1\n{sections}EndProblem\n"
+        (draft,) = read_drafts(given)
+        self.assertEqual(draft.setting.conditions, tuple(f"c{number}" for number in range(100)))
+        told = "".join(imported_text(given.encode()).told)
+        self.assertIn("left out: pops knows no condition c0 c1 c2 c3 ", told)
+        self.assertLess(len(told), 200)
+
+    def test_attributes_are_named_once(self) -> None:
+        """Each man and each twin would repeat them."""
+        given = f"White {'Royal Royal Chameleon ' * 100}Qa1 Kg6 Black Kh8"
+        made = imported_text(f"BeginProblem\nPieces {given}\nStipulation h#1\nEndProblem\n".encode())
+        said = "pops knows no white Royal Chameleon Q, on a1; pops knows no white Royal Chameleon K, on g6"
+        self.assertIn(f"left out: {said}", "".join(made.told))
+
     def test_signs_between_two_squares(self) -> None:
         """As YACPDB has twins of Benkő's: `Shift a1=b1`."""
         for sign in ("=", "==", "=>", "-->", "<-->", "-", ""):
@@ -760,6 +791,15 @@ class Databases(unittest.TestCase):
             imported("--index", str(table), str(source))
             row = table.read_bytes().split(b"\n")[1].decode("utf-8")
             self.assertEqual(row.split("\t")[5], "1\ufffd[2J\ufffd2")
+
+    def test_a_long_id_is_shortened_in_the_index(self) -> None:
+        with tempfile.TemporaryDirectory() as room:
+            table, source = Path(room) / "index", Path(room) / "in"
+            source.write_bytes(YACPDB.replace(b"13", b"9" * 1000, 1))
+            made = imported("--index", str(table), str(source))
+            rows = [line.split("\t") for line in table.read_text("utf-8").splitlines()]
+            self.assertEqual([row[5] for row in rows[2:5]], ["9" * 200 + ".."] * 3)
+            self.assertIn("9" * 1000, made.output.decode())
 
     def test_messages_as_json(self) -> None:
         outcome = support.companion("pops-import", "--json", text=YACPDB)

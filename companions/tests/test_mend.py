@@ -8,7 +8,7 @@ from collections.abc import Callable
 from typing import Optional
 from unittest import mock
 
-from pops_companions.explain import mending
+from pops_companions.explain import mending, near
 from pops_companions.explain.near import Edit
 from pops_companions.explain.explaining import explanation
 from pops_companions.explain.mended_text import mend
@@ -578,6 +578,13 @@ class Work(unittest.TestCase):
         for name, made in faults_in.items():
             with self.subTest(name):
                 self.is_linear(made, mend)
+
+    def test_many_words_that_begin_a_problem(self) -> None:
+        """The problem is looked for again where it may end, not after each of them."""
+        text = f"BeginProblem\n{self.RIGHT}NextProblem xyz {'Begin ' * 200}EndProblem\n".encode()
+        with mock.patch.object(near, "cut", wraps=cut) as looks:
+            self.assertEqual((mend(text).text, mend(text).left), (text, 1))
+        self.assertLess(looks.call_count, 20)
 
     def test_all_faults(self) -> None:
         def made(count: int) -> str:

@@ -147,7 +147,7 @@ class Explained(support.InRoom):
         for words in ((), ("--json",), ("--all",)):
             with self.subTest(words):
                 status, _, error = self.said(f"echo '{line}'; exit 1", *words)
-                self.assertEqual(status, 1)
+                self.assertEqual(status, 3)
                 self.assertIn("what pops said is no report of standard input: pops finds", error)
 
     def test_the_module_refuses_another_place(self) -> None:

@@ -109,6 +109,11 @@ class Square(NamedTuple):
         return square
 
     @staticmethod
+    def of_names(names: str) -> "list[Square]":
+        """Returns the squares of names without blanks, as `e4d5`."""
+        return [Square.of_name(names[place : place + 2]) for place in range(0, len(names), 2)]
+
+    @staticmethod
     def of_diagram() -> "Iterator[Square]":
         """Yields all squares as a diagram shows them: rank 8 first, each rank from a to h."""
         yield from _DIAGRAM

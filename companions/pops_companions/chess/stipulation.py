@@ -37,7 +37,7 @@ class Condition(Enum):
 
 
 _STIPULATION = re.compile(r"([sh]?)([#=])(0|[1-9][0-9]{0,2})(\.5)?", re.ASCII)
-_MOST_MOVES = 16
+MOST_MOVES = 16
 _PLAYS = {"": Play.DIRECT, "s": Play.SELF, "h": Play.HELP}
 _LETTERS = {play: letter for letter, play in _PLAYS.items()}
 
@@ -71,9 +71,19 @@ class Stipulation:
         return f"{_LETTERS[self.play]}{self.goal.value}{self.moves}{'.5' if self.half_more else ''}"
 
     @property
+    def least_moves(self) -> int:
+        """The least number of moves of its kind that pops takes."""
+        return 0 if self.half_more else 1
+
+    @property
+    def most_moves(self) -> int:
+        """The greatest number of moves of its kind that pops takes."""
+        return MOST_MOVES - 1 if self.half_more else MOST_MOVES
+
+    @property
     def is_in_range(self) -> bool:
         """Whether pops takes its number of moves."""
-        return self.moves < _MOST_MOVES if self.half_more else 0 < self.moves <= _MOST_MOVES
+        return self.least_moves <= self.moves <= self.most_moves
 
     @property
     def half_moves(self) -> int:

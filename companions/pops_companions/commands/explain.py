@@ -240,7 +240,7 @@ def main(words: list[str]) -> Status:
                 status = write(name, text, report, target, settings.all, said.places)
     except (ReportError, OtherText) as error:
         source = "what pops said" if settings.report is None else name_of(settings.report)
-        raise CommandError(Status.FAULTY, f"{source} is no report of {name}: {error}") from None
+        raise CommandError(Status.DEVICE, f"{source} is no report of {name}: {error}") from None
     if settings.fix:
         sys.stderr.write(fix(settings.input, text, settings.force))
     return status

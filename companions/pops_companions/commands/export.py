@@ -79,7 +79,7 @@ def refuse_other_report(
             item = items.get(problem.number)
             if item is not None and item.stipulation.text != problem.stipulation:
                 raise CommandError(
-                    Status.FAULTY,
+                    Status.DEVICE,
                     f"{settings.report} isn't the report of the problems: problem {problem.number}"
                     f" is {item.stipulation.text} there, not {problem.stipulation}",
                 )

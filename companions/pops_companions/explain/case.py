@@ -1,7 +1,7 @@
 """A fault with all that is known of its problem, and what an explanation is made of."""
 
 import re
-from collections.abc import Callable, Iterable, Iterator, Sequence
+from collections.abc import Callable, Iterator, Sequence
 from dataclasses import dataclass, replace
 from typing import Optional
 
@@ -85,8 +85,14 @@ class Case:
         return at(text, self.word.span, *marks)
 
     def tells(self, which: str, *marks: Span, **values: object) -> Explanation:
-        """Returns a sentence with these values, and the faulty word as `word`, as an explanation."""
-        return self.says(sentence(which, word=self.quoted, **values), *marks)
+        """Returns a sentence with these values as an explanation; `word` is the faulty word as it is
+        named, `plain` the whole of it.
+        """
+        return self.says(sentence(which, word=self.quoted, plain=self.plain, **values), *marks)
+
+    def mends(self, which: str, mended: str) -> Optional[Explanation]:
+        """Returns a sentence with what the faulty word is to be; None where that doesn't fit."""
+        return self.tells(which, mended=mended) if self.fits(mended) else None
 
     def fits(self, text: str) -> bool:
         """Returns whether these words could stand in place of the faulty one."""
@@ -140,13 +146,8 @@ def listed(names: Sequence[str], last: str = "and") -> str:
     return f"{', '.join(names[:-1])} {last} {names[-1]}"
 
 
-def first_of(found: Iterable[Optional[Explanation]]) -> Explanation:
-    """Returns the first explanation that there is."""
-    return next(it for it in found if it is not None)
-
-
 def first_cause(
     causes: Callable[[Case], Iterator[Optional[Explanation]]],
 ) -> Callable[[Case], Explanation]:
     """Makes a function of causes return the first explanation that there is."""
-    return lambda case: first_of(causes(case))
+    return lambda case: next(it for it in causes(case) if it is not None)

@@ -1,7 +1,7 @@
 """Characters that don't show, or that look like others."""
 
 import unicodedata
-from typing import Any, NamedTuple, Optional
+from typing import Any, Optional
 
 from pops_companions.explain.sentences import DATA
 
@@ -11,17 +11,10 @@ _FIGURINES: dict[str, str] = dict(zip(*_KNOWN["figurines"]))
 _NAMES: dict[str, str] = _KNOWN["names"]
 
 
-class Odd(NamedTuple):
-    """A character of a word, with its place in the decoded word."""
-
-    place: int
-    character: str
-
-    @property
-    def name(self) -> str:
-        """As `no-break space`."""
-        code = f"{ord(self.character):04X}"
-        return _NAMES.get(code, f"character U+{code}")
+def name_of(character: str) -> str:
+    """As `no-break space`."""
+    code = f"{ord(character):04X}"
+    return _NAMES.get(code, f"character U+{code}")
 
 
 def decoded(text: bytes) -> str:
@@ -68,9 +61,9 @@ def _width(character: str) -> int:
     return 2 if unicodedata.east_asian_width(character) in "WF" else 1
 
 
-def invisible(text: str) -> list[Odd]:
-    """Returns the characters that don't show, or show as a blank and are none."""
-    return [Odd(place, it) for place, it in enumerate(text) if _is_invisible(it)]
+def invisible(text: str) -> Optional[str]:
+    """Returns the first character that doesn't show, or shows as a blank and is none."""
+    return next((it for it in text if _is_invisible(it)), None)
 
 
 def is_wide_blank(character: str) -> bool:
@@ -84,12 +77,9 @@ def with_blanks(text: str) -> str:
     return " ".join("".join(changed).split())
 
 
-def look_alike(text: str) -> Optional[Odd]:
+def look_alike(text: str) -> Optional[str]:
     """Returns the first letter of another alphabet that looks like one of ours, or a wide one."""
-    for place, character in enumerate(text):
-        if plain(character) != character:
-            return Odd(place, character)
-    return None
+    return next((it for it in text if _plain(it) != it), None)
 
 
 def plain(text: str) -> str:

@@ -4,11 +4,11 @@ from collections.abc import Iterator
 from typing import Optional
 
 from pops_companions.explain import wordings
-from pops_companions.explain.case import Case, Explanation, at, first_cause, first_of, quoted
+from pops_companions.explain.case import Case, Explanation, at, first_cause, quoted
 from pops_companions.explain.characters import shown
 from pops_companions.explain.sentences import sentence
-from pops_companions.input.reading import Awaited, Reading, Section
-from pops_companions.input.words import Span, TextLine, Word, named
+from pops_companions.input.reading import Awaited, Section
+from pops_companions.input.words import named
 
 
 @first_cause
@@ -53,29 +53,20 @@ def _absent(case: Case, what: str, example: str) -> Explanation:
 
 
 def _swallowed(case: Case, name: str) -> Optional[Explanation]:
-    line = _line_with(case.reading, name)
-    if line is None:
-        return None
-    return case.tells("swallowed", line.span, opener=line.name, name=name)
-
-
-def _line_with(reading: Reading, name: str) -> Optional[TextLine]:
-    """Returns a text line that holds the command with what may follow it."""
-    for line in reading.text_lines:
+    """Explains a text line that holds the command with what may follow it."""
+    for line in case.reading.text_lines:
         words = line.text.split()
         for word, after in zip(words, [*words[1:], b""]):
             short = named(word, [name]) is not None
             if short and (word.lower() == name.lower().encode("ascii") or after):
-                return line
+                return case.tells("swallowed", line.span, opener=line.name, name=name)
     return None
 
 
-def end_problem_missing(text: bytes, reading: Reading) -> Explanation:
+@first_cause
+def end_problem_missing(case: Case) -> Iterator[Optional[Explanation]]:
     """Explains that the text ends before EndProblem."""
-    return first_of(_causes_of_no_end(text, reading))
-
-
-def _causes_of_no_end(text: bytes, reading: Reading) -> Iterator[Optional[Explanation]]:
+    text, reading = case.text, case.reading
     if wordings.old_mac(text):
         for line in reading.text_lines[:1]:
             yield at(sentence("old_mac_line", opener=line.name), line.word.span)
@@ -89,17 +80,8 @@ def _causes_of_no_end(text: bytes, reading: Reading) -> Iterator[Optional[Explan
         yield at(sentence("value_awaited", option=quoted(reading.option)), reading.option.span)
     if not reading.first and last is None:
         yield at(sentence("no_problem_after"))
-    missing = _left_out(reading)
+    marks = [] if last is None else [last.span]
+    missing = "men" if not reading.men else "stipulation" if reading.stipulation is None else ""
     if text and not text.endswith(b"\n") and missing:
-        yield at(sentence("cut_text", missing=missing), *_spans(last))
-    yield at(sentence("end_missing"), *_spans(last))
-
-
-def _left_out(reading: Reading) -> str:
-    if not reading.men:
-        return "men"
-    return "stipulation" if reading.stipulation is None else ""
-
-
-def _spans(word: Optional[Word]) -> list[Span]:
-    return [word.span] if word is not None else []
+        yield at(sentence("cut_text", missing=missing), *marks)
+    yield at(sentence("end_missing"), *marks)

@@ -41,16 +41,14 @@ def explain(
         if number <= last:
             raise OtherText("it is of several texts: give the report of one")
         last = number
-        if not isinstance(item, FaultyItem):
-            if number > len(pieces):
-                raise OtherText(f"it has problem {number}, and the text has {len(pieces)}")
-            continue
-        fault = item.fault
-        if fault.number in _WITHOUT_WORD:
+        fault = item.fault if isinstance(item, FaultyItem) else None
+        if fault is not None and fault.number in _WITHOUT_WORD:
             yield ExplainedFault(number, None, fault, at(sentence(_WITHOUT_WORD[fault.number])))
             continue
         if number > len(pieces):
             raise OtherText(f"it has problem {number}, and the text has {len(pieces)}")
+        if fault is None:
+            continue
         piece = pieces[number - 1]
         reading = read_piece(text, piece)
         _compare(text, number, fault, reading)
@@ -63,16 +61,14 @@ def explanation(text: bytes, reading: Reading) -> Explanation:
     assert reading.number is not None
     if reading.at is None:
         if reading.number is FaultKind.END_PROBLEM_MISSING:
-            return endings.end_problem_missing(text, reading)
+            return endings.end_problem_missing(Case(text, reading))
         return misplaced.no_problem(text, bool(reading.text_lines))
-    return _of_a_word(reading)(Case(text, reading))
+    return _BY_WORD[reading.number](Case(text, reading))
 
 
-def _of_a_word(reading: Reading) -> Callable[[Case], Explanation]:
-    if reading.number is FaultKind.SQUARE_MISSING and reading.section is Section.PIECES:
-        return men.square_missing
-    assert reading.number is not None
-    return _BY_WORD[reading.number]
+def _square_missing(case: Case) -> Explanation:
+    is_of_a_man = case.reading.section is Section.PIECES
+    return men.square_missing(case) if is_of_a_man else options.square_missing(case)
 
 
 def _compare(text: bytes, number: int, fault: Fault, reading: Reading) -> None:
@@ -123,7 +119,7 @@ _BY_WORD: dict[FaultKind, Callable[[Case], Explanation]] = {
     FaultKind.NO_MEN: endings.no_men,
     FaultKind.SECOND_CONDITION: options.second_condition,
     FaultKind.BAD_LIMIT: options.bad_limit,
-    FaultKind.SQUARE_MISSING: options.square_missing,
+    FaultKind.SQUARE_MISSING: _square_missing,
     FaultKind.EN_PASSANT_IMPOSSIBLE: options.en_passant_impossible,
     FaultKind.NONE_CASTLES_THERE: options.none_castles_there,
     FaultKind.KING_MISSING: men.king_missing,

@@ -20,7 +20,6 @@ from pops_companions.input.reading import (
     is_man,
     kind_of,
     king_of,
-    to_be_mated,
 )
 from pops_companions.input.words import TEXT_WORDS, Span, named
 
@@ -63,29 +62,27 @@ def square_taken(case: Case) -> Explanation:
     """Explains a man on a square that is taken."""
     square, placed = _square_of(case)
     before = case.reading.men[square]
-    first = span_of(before)
     what = f"{before.man.colour.value} {before.man.kind.word}"
     kind, colour = kind_of(case.word.bytes), case.reading.colour
     assert kind is not None and colour is not None
     if before.word is case.word:
         text = sentence("square_twice_in_word", word=case.quoted, square=square.name)
-        return at(text, first, placed)
-    if (before.man.kind, before.man.colour) == (kind, colour):
+    elif (before.man.kind, before.man.colour) == (kind, colour):
         opener = case.reading.opener
         is_there = opener is not None and before.word.start < opener.start
         which = "man_of_pieces_before" if is_there else "man_given_twice"
         text = sentence(which, what=what, square=square.name, before=quoted(before.word))
-        return at(text, first, placed)
-    text = sentence(
-        "square_taken",
-        what=what,
-        before=quoted(before.word),
-        square=square.name,
-        colour=colour.value,
-        kind=kind.word,
-        word=case.quoted,
-    )
-    return at(text, first, placed)
+    else:
+        text = sentence(
+            "square_taken",
+            what=what,
+            before=quoted(before.word),
+            square=square.name,
+            colour=colour.value,
+            kind=kind.word,
+            word=case.quoted,
+        )
+    return at(text, before.span, placed)
 
 
 def pawn_on_outer_rank(case: Case) -> Explanation:
@@ -105,22 +102,14 @@ def second_king(case: Case) -> Explanation:
     king = king_of(case.reading, colour)
     assert king is not None
     before = case.reading.men[king]
-    name = colour.value
+    about = {"colour": colour.name.title(), "before": quoted(before.word), "word": case.quoted}
     if before.word is case.word:
-        text = sentence("two_kings_in_word", word=case.quoted, colour=name.title())
-        return at(text, span_of(before), placed)
-    if colour.opponent not in [it for it, _ in case.reading.colours]:
-        other = colour.opponent.name.title()
-        text = sentence(
-            "second_king_colour",
-            colour=name.title(),
-            before=quoted(before.word),
-            other=other,
-            word=case.quoted,
-        )
+        text = sentence("two_kings_in_word", **about)
+    elif colour.opponent not in [it for it, _ in case.reading.colours]:
+        text = sentence("second_king_colour", **about, other=colour.opponent.name.title())
     else:
-        text = sentence("second_king", colour=name.title(), before=quoted(before.word))
-    return at(text, span_of(before), placed)
+        text = sentence("second_king", **about)
+    return at(text, before.span, placed)
 
 
 def _square_of(case: Case) -> tuple[Square, Span]:
@@ -128,11 +117,6 @@ def _square_of(case: Case) -> tuple[Square, Span]:
     square, place = case.reading.square, case.reading.square_place
     assert square is not None
     return square, case.word.part(place, place + 2)
-
-
-def span_of(placed: Placed) -> Span:
-    """Returns where the square of a man stands."""
-    return placed.word.part(*placed.square_span)
 
 
 @first_cause
@@ -166,7 +150,7 @@ def _letter_alone(case: Case) -> Optional[Explanation]:
             return case.tells("squares_parted", case.after.span, whole=whole)
     if len(case.word.bytes) > 1:
         return None
-    return case.tells("no_square", plain=case.plain)
+    return case.tells("no_square")
 
 
 def _bad_square(case: Case) -> Explanation:
@@ -192,7 +176,7 @@ def king_missing(case: Case) -> Explanation:
     """Explains that the side to be mated has no king."""
     stipulation, given = case.reading.stipulation, case.reading.stipulation_word
     assert stipulation is not None and given is not None
-    side = to_be_mated(stipulation)
+    side = stipulation.last_side.opponent
     name, other = side.name.title(), side.opponent.name.title()
     head = sentence("no_king", given=quoted(given), name=name)
     for line in case.reading.text_lines:
@@ -232,11 +216,11 @@ def waiting_side_in_check(case: Case) -> Explanation:
     king = king_of(reading, waiting)
     assert king is not None
     who: list[str] = []
-    marks = [span_of(reading.men[king])]
+    marks = [reading.men[king].span]
     for square in checkers(reading):
         placed = reading.men[square]
         who.append(sentence("kind_on", kind=placed.man.kind.word, square=square.name))
-        marks.append(span_of(placed))
+        marks.append(placed.span)
     text = sentence(
         "in_check_once" if len(who) == 1 else "in_check",
         given=quoted(reading.stipulation_word),

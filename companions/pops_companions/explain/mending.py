@@ -262,10 +262,6 @@ def _proposed(text: bytes, reading: Reading, said: Explanation) -> Iterator[Edit
         wanted = (before[1] or before[2]).encode("utf-8")
         yield Edit(Span(word.start, word.start), wanted + b" ")
         return
-    section = re.search(rf"Write {_QUOTED} before it\.$", said.text)
-    if section is not None:
-        yield Edit(Span(word.start, word.start), section[1].encode("utf-8") + b" ")
-        return
     yield from _taken_out(text, reading, said.text)
     yield from _on_own_lines(text, reading, said)
     crossed = re.search(r"write `EnPassant ([a-h][1-8])`", said.text)

@@ -108,11 +108,12 @@ def _wrong_section(case: Case) -> Optional[Explanation]:
     if home is not None and home[0] is Section.PIECES and not _is_before_a_man(case):
         return _white_to_play(case)
     if home is not None and home[0] is not section:
-        return _belongs(case, sentence(home[1]), home[0])
+        return case.tells("belongs", what=sentence(home[1]), section=home[0].value)
     if section is not Section.PIECES and is_man(word):
         return case.tells("man_outside")
     if looks_like_stipulation(case.plain):
-        return _belongs(case, sentence("a_stipulation"), Section.STIPULATION)
+        section_name = Section.STIPULATION.value
+        return case.tells("belongs", what=sentence("a_stipulation"), section=section_name)
     return _wrong_section_with_signs(case)
 
 
@@ -151,18 +152,12 @@ def _home_of(word: bytes) -> Optional[tuple[Section, str]]:
     return (Section.PIECES, "a_colour") if named(word, COLOURS, 3) else None
 
 
-def _belongs(case: Case, what: str, section: Section) -> Explanation:
-    return case.tells("belongs", what=what, section=section.value)
-
-
 def _causes_among_men(case: Case) -> Iterator[Optional[Explanation]]:
     yield squares_alone(case)
     word = case.word.bytes
     if word[:1] == b"w" and word[1:2].isupper() and is_man(word[1:]):
         yield case.tells("white_apart", rest=case.plain[1:])
-    mended = re.sub("([a-hA-H])[lI|]", r"\g<1>1", case.plain)
-    if mended != case.plain and case.fits(mended):
-        yield case.tells("letter_for_digit", mended=mended)
+    yield case.mends("letter_for_digit", re.sub("([a-hA-H])[lI|]", r"\g<1>1", case.plain))
     yield man_by_name(case)
     yield foreign_letter(case)
     yield two_letters(case)

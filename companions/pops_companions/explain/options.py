@@ -7,7 +7,6 @@ from typing import Optional
 from pops_companions.chess.men import Colour, Square
 from pops_companions.explain import wordings
 from pops_companions.explain.case import Case, Explanation, at, first_cause, listed, quoted
-from pops_companions.explain.men import span_of
 from pops_companions.explain.sentences import sentence
 from pops_companions.explain.vocabulary import unread
 from pops_companions.input.reading import (
@@ -32,9 +31,9 @@ def second_condition(case: Case) -> Explanation:
     """Explains a second condition."""
     given = case.reading.condition_word
     assert given is not None and case.reading.condition is not None
-    if named(case.word.bytes, [case.reading.condition.value]):
-        return case.tells("condition_twice", given.span, given=quoted(given))
-    return case.tells("second_condition", given.span, given=quoted(given))
+    is_same = named(case.word.bytes, [case.reading.condition.value]) is not None
+    which = "condition_twice" if is_same else "second_condition"
+    return case.tells(which, given.span, given=quoted(given))
 
 
 @first_cause
@@ -98,8 +97,8 @@ def en_passant_impossible(case: Case) -> Explanation:
     stipulation, given, crossed = reading.stipulation, reading.crossed_word, reading.crossed
     assert stipulation is not None and given is not None and crossed is not None
     assert reading.stipulation_word is not None
-    wants = en_passant_wants(reading)
     starter = stipulation.starter
+    wants = en_passant_wants(reading.position, starter, crossed)
     head = sentence(
         "moves_first", given=quoted(reading.stipulation_word), side=starter.name.title()
     )
@@ -112,7 +111,7 @@ def en_passant_impossible(case: Case) -> Explanation:
         text = sentence("passed_no_pawn", **about, pawn_square=wants.pawn.name)
         return case.says(text, given.span)
     taken = listed([square.name for square in wants.occupied])
-    marks = [span_of(reading.men[square]) for square in wants.occupied]
+    marks = [reading.men[square].span for square in wants.occupied]
     text = sentence("passed_occupied", **about, home=wants.home.name, taken=taken)
     return case.says(text, given.span, *marks)
 

@@ -68,16 +68,14 @@ def squares_alone(case: Case) -> Optional[Explanation]:
     if not squares:
         return None
     if before is not None and before.bytes in (b"B", b"b"):
-        return case.tells(
-            "bishop_or_black", before.span, before=decoded(before.bytes), plain=case.plain
-        )
+        return case.tells("bishop_or_black", before.span, before=decoded(before.bytes))
     if before is None or not is_man(before.bytes):
-        return case.tells("pawn_without_letter", plain=case.plain)
+        return case.tells("pawn_without_letter")
     whole = decoded(before.bytes) + case.plain
     kind, is_no_pawn = kind_of(before.bytes), any(it.rank in (1, 8) for it in squares)
     is_of_it = kind is Kind.PAWN or is_no_pawn and kind is not Kind.KING
     which = "squares_parted" if is_of_it else "pawn_or_square"
-    return case.tells(which, before.span, plain=case.plain, whole=whole)
+    return case.tells(which, before.span, whole=whole)
 
 
 def man_by_name(case: Case) -> Optional[Explanation]:

@@ -4,14 +4,14 @@ import re
 from collections.abc import Iterator, Sequence
 from typing import Any, Optional
 
+from pops_companions.chess.stipulation import MOST_MOVES
 from pops_companions.explain import wanted, wordings
-from pops_companions.explain.case import Case, Explanation, first_cause, first_of, quoted
+from pops_companions.explain.case import Case, Explanation, first_cause, quoted
 from pops_companions.explain.characters import decoded
 from pops_companions.explain.sentences import DATA, sentence
 from pops_companions.input.reading import (
     COLOURS,
     CONDITIONS,
-    MOST_MOVES,
     OPTIONS,
     Section,
     is_man,
@@ -91,16 +91,12 @@ def _half(case: Case) -> Optional[Explanation]:
     if "½" not in word and not re.search(r"1/2$", word):
         return None
     mended = re.sub(r"½|[- ]?1/2$", ".5", word)
-    if case.fits(mended):
-        return case.tells("half", mended=mended)
-    return None if word.lower().startswith("h") else case.tells("half_only_help")
+    is_help = word.lower().startswith("h")
+    return case.mends("half", mended) or (None if is_help else case.tells("half_only_help"))
 
 
 def _sign_of_mate(case: Case) -> Optional[Explanation]:
-    mended = re.sub(f"[{_SIGNS_OF_MATE}]|\\+\\+", "#", case.plain)
-    if mended == case.plain or not case.fits(mended):
-        return None
-    return case.tells("sign_of_mate", mended=mended)
+    return case.mends("sign_of_mate", re.sub(f"[{_SIGNS_OF_MATE}]|\\+\\+", "#", case.plain))
 
 
 def _section_empty(case: Case) -> Optional[Explanation]:
@@ -136,7 +132,7 @@ def _without_number(case: Case) -> Optional[Explanation]:
         whole = case.plain + re.sub("(?:,5|½)$", ".5", decoded(case.after.bytes))
         if case.fits(whole):
             return case.tells("number_parted", case.after.span, whole=whole)
-    return case.tells("number_missing_in_word", plain=case.plain)
+    return case.tells("number_missing_in_word")
 
 
 def _wrong_number(case: Case, stipulation: str) -> Optional[Explanation]:
@@ -177,9 +173,8 @@ def _exact(case: Case) -> Optional[Explanation]:
     found = re.fullmatch(r"exact-(.+)", case.plain, re.IGNORECASE)
     if found is None:
         return None
-    if found[1].lower().startswith("h"):
-        return case.tells("exact_help", first=found[1])
-    return case.tells("exact", first=found[1])
+    which = "exact_help" if found[1].lower().startswith("h") else "exact"
+    return case.tells(which, first=found[1])
 
 
 def _other_goal(case: Case) -> Optional[Explanation]:
@@ -193,7 +188,7 @@ def _comma(case: Case) -> Optional[Explanation]:
     mended = re.sub(r",5$", ".5", case.plain)
     if mended == case.plain:
         return None
-    return case.tells("half_point", mended=mended) if case.fits(mended) else _wrong_number(case, mended)
+    return case.mends("half_point", mended) or _wrong_number(case, mended)
 
 
 def _may_be_half(case: Case) -> Optional[Explanation]:
@@ -203,16 +198,8 @@ def _may_be_half(case: Case) -> Optional[Explanation]:
 
 
 def _reversed(case: Case) -> Optional[Explanation]:
-    found = re.fullmatch(r"([0-9]+)(\.5)?([sh]?[#=])|([sh])([0-9]+)(\.5)?([#=])", case.plain)
-    if found is None:
-        return None
-    if found[1]:
-        mended = found[3] + found[1] + (found[2] or "")
-    else:
-        mended = found[4] + found[7] + found[5] + (found[6] or "")
-    if not case.fits(mended):
-        return None
-    return case.tells("sign_first", mended=mended)
+    mended = re.sub(r"^([sh]?)([0-9]+(?:\.5)?)([sh]?[#=])$", r"\1\3\2", case.plain)
+    return case.mends("sign_first", mended)
 
 
 def _number_in_words(case: Case) -> Optional[Explanation]:
@@ -225,7 +212,7 @@ def _number_in_words(case: Case) -> Optional[Explanation]:
 
 def _in_words(case: Case) -> Optional[Explanation]:
     if is_number(case.word.bytes):
-        return case.tells("only_number", plain=case.plain)
+        return case.tells("only_number")
     return _said_in_words(case, case.rest_of_line(_MOST_WORDS))
 
 
@@ -273,19 +260,15 @@ def _has_two_pieces(case: Case) -> bool:
     return count > 1
 
 
-def second_stipulation(case: Case) -> Explanation:
+@first_cause
+def second_stipulation(case: Case) -> Iterator[Optional[Explanation]]:
     """Explains a second stipulation."""
     given = case.reading.stipulation_word
     assert given is not None
-    return first_of(_causes_of_a_second(case, given))
-
-
-def _causes_of_a_second(case: Case, given: Word) -> Iterator[Optional[Explanation]]:
     yield wordings.invisible(case)
     if not looks_like_stipulation(case.plain):
         yield wordings.comment(case)
         yield wordings.signs(case)
     if case.word.bytes.lower() == given.bytes.lower() and not _has_two_pieces(case):
-        text = sentence("stipulation_twice", given=quoted(given))
-        yield case.says(text, given.span)
+        yield case.tells("stipulation_twice", given.span, given=quoted(given))
     yield case.tells("second_stipulation", given.span, given=quoted(given))

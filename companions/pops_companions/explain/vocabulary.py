@@ -37,7 +37,12 @@ _FOREIGN: dict[str, ForeignWord] = {
 
 def unread(word: str) -> Optional[Unread]:
     """Returns the word of Popeye of which this is a short form, of three letters or more."""
-    return _found(word, _UNREAD)
+    small = word.lower()
+    if small in _UNREAD:
+        return _UNREAD[small]
+    if len(small) < 3 or small in _NO_SHORT_FORMS:
+        return None
+    return next((it for name, it in _UNREAD.items() if name.startswith(small)), None)
 
 
 def is_unread_command(word: str) -> bool:
@@ -48,15 +53,6 @@ def is_unread_command(word: str) -> bool:
 def foreign(word: str) -> Optional[ForeignWord]:
     """Returns the German or French word that this is, in full; accents may stand or lack."""
     return _FOREIGN.get(folded(word))
-
-
-def _found(word: str, table: dict[str, Unread]) -> Optional[Unread]:
-    small = word.lower()
-    if small in table:
-        return table[small]
-    if len(small) < 3 or small in _NO_SHORT_FORMS:
-        return None
-    return next((it for name, it in table.items() if name.startswith(small)), None)
 
 
 class Alphabet(NamedTuple):

@@ -32,28 +32,24 @@ _HALVES = re.compile(rb"^(?:\xff\xfe|\xfe\xff)|^[ -~]\x00|^\x00[ -~]")
 
 def utf_16(case: Case) -> Optional[Explanation]:
     """Explains a text in UTF-16, two bytes a letter."""
-    if not _HALVES.match(case.text):
-        return None
-    return case.tells("utf_16")
+    return case.tells("utf_16") if _HALVES.match(case.text) else None
 
 
 def invisible(case: Case) -> Optional[Explanation]:
     """Characters in the word that don't show, or look like blanks."""
-    found = characters.invisible(case.plain)
-    if not found:
+    odd = characters.invisible(case.plain)
+    if odd is None:
         return None
-    odd = found[0]
-    if odd.character == "\ufeff":
-        where = sentence("mark_first" if odd.place == 0 else "mark_inside")
+    if odd == "\ufeff":
+        where = sentence("mark_first" if case.plain.startswith(odd) else "mark_inside")
         cure = sentence("mark_joined" if case.word.start > 0 else "mark_save")
         return case.tells("mark", where=where, cure=cure)
     blanks = characters.with_blanks(case.plain)
     joined_up = [blanks.replace(" ", "")] if _is_one_word(blanks) else []
     mended = next((it for it in (blanks, *joined_up) if case.fits(it)), None)
     cure = sentence("blank_in_place") if mended is None else sentence("write", mended=mended)
-    is_wide = characters.is_wide_blank(odd.character)
-    looks = sentence("looks_like_blank" if is_wide else "does_not_show")
-    return case.tells("invisible", name=odd.name, looks=looks, cure=cure)
+    looks = sentence("looks_like_blank" if characters.is_wide_blank(odd) else "does_not_show")
+    return case.tells("invisible", name=characters.name_of(odd), looks=looks, cure=cure)
 
 
 def _is_one_word(text: str) -> bool:
@@ -78,18 +74,12 @@ def look_alike(case: Case) -> Optional[Explanation]:
     if odd is None:
         return None
     mended = characters.plain(case.plain)
-    if not characters.is_figurine(odd.character) and not case.fits(mended):
+    if characters.is_figurine(odd):
+        return case.tells("figurine", letter=odd, mended=mended)
+    if not case.fits(mended):
         return None
-    if characters.is_figurine(odd.character):
-        return case.tells("figurine", letter=odd.character, mended=mended)
-    script = characters.script_of(odd.character)
-    return case.tells(
-        "look_alike",
-        letter=odd.character,
-        script=script,
-        like=characters.plain(odd.character),
-        mended=mended,
-    )
+    script, like = characters.script_of(odd), characters.plain(odd)
+    return case.tells("look_alike", letter=odd, script=script, like=like, mended=mended)
 
 
 def comment(case: Case) -> Optional[Explanation]:
@@ -115,9 +105,7 @@ def _is_beside_stipulation(case: Case) -> bool:
 
 def position(case: Case) -> Optional[Explanation]:
     """Explains a position in FEN."""
-    if not _FEN.fullmatch(case.plain):
-        return None
-    return case.tells("position", plain=case.plain)
+    return case.tells("position") if _FEN.fullmatch(case.plain) else None
 
 
 def without_signs(word: str) -> str:
@@ -238,10 +226,7 @@ def in_another_language(case: Case) -> Optional[Explanation]:
 
 def accented(case: Case) -> Optional[Explanation]:
     """Explains an accent on a letter of a word of pops."""
-    plain = characters.without_accents(case.plain)
-    if plain == case.plain or not case.fits(plain):
-        return None
-    return case.tells("accented", plain=plain)
+    return case.mends("accented", characters.without_accents(case.plain))
 
 
 def lengthened(case: Case) -> Optional[Explanation]:

@@ -9,7 +9,7 @@ from collections.abc import Iterable, Iterator, Mapping, Sequence
 from typing import Optional
 
 from pops_companions.export.problems import Exported
-from pops_companions.chess.men import LETTERS
+from pops_companions.chess.men import LETTERS, Square
 from pops_companions.export.yaml_fields import Fields, Source, Value, fields_of, put, source_of
 from pops_companions.report.items import SoundItem
 from pops_companions.show.authors import persons
@@ -18,6 +18,8 @@ _WANTED = re.compile("solutions ([1-9][0-9]{0,8})")
 # Keys that have a list, also of one, and a key whose texts are a list.
 _LISTS = ("awards", "judges", "keywords", "reprints")
 _LISTS_OF_TEXTS = (*_LISTS, "judge")
+# What YAML allows only as a code, or takes for the end of a line. JSON leaves it as it is.
+_UNPRINTABLE = re.compile("[\x7f-\x9f\u2028\u2029\ufeff\ufffe\uffff]")
 _MAN = re.compile(f"([{LETTERS}])((?:[a-h][1-8])+)")
 _SIGNS = re.compile("(.*?)([#+=]?)([!?]?)")
 # What Popeye prints after a first move in place of the line that a text of tries has below it.
@@ -82,6 +84,8 @@ def _origin(source: Source) -> Iterator[str]:
 
 def _field(key: str, value: Value, indent: str = "") -> Iterator[str]:
     """Yields a key with what is below it."""
+    # (without quotes it would be nothing)
+    key = _quoted(key) if key.lower() == "null" else key
     if isinstance(value, dict):
         yield f"{indent}{key}:"
         is_list = list(value) == [str(number) for number in range(1, len(value) + 1)]
@@ -124,7 +128,8 @@ def _stored(value: Value) -> Iterator[str]:
 
 
 def _quoted(text: str) -> str:
-    return json.dumps(text, ensure_ascii=False)
+    quoted = json.dumps(text, ensure_ascii=False)
+    return _UNPRINTABLE.sub(lambda found: f"\\u{ord(found[0]):04X}", quoted)
 
 
 def _list(key: str, texts: Iterable[str]) -> Iterator[str]:
@@ -143,8 +148,7 @@ def _men(pieces: str) -> "dict[str, list[str]]":
             colour = word.lower()
             men[colour] = []
         else:
-            squares = (found[2][place : place + 2] for place in range(0, len(found[2]), 2))
-            men[colour].extend(found[1] + square for square in squares)
+            men[colour] += [found[1] + square.name for square in Square.of_names(found[2])]
     return men
 
 

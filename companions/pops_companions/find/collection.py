@@ -138,7 +138,7 @@ class Collection:
             self._data.create_function("folded", 1, _folded)
             if new:
                 with self._whole("IMMEDIATE"):
-                    if not self._tables():
+                    if not self._data.execute("SELECT 1 FROM sqlite_master").fetchone():
                         self._make()
             (form,) = self._asked("PRAGMA application_id").fetchone()
         except sqlite3.Error as error:
@@ -215,9 +215,6 @@ class Collection:
     def _has_keywords(self) -> bool:
         return any(row[1] == "keywords" for row in self._asked("PRAGMA table_info(problems)"))
 
-    def _tables(self) -> int:
-        return int(self._data.execute("SELECT count(*) FROM sqlite_master").fetchone()[0])
-
     def _make(self) -> None:
         """Makes the tables and the mark, all or nothing, within the transaction at hand."""
         for statement in filter(str.strip, _SCHEMA.split(";")):
@@ -289,17 +286,15 @@ class Collection:
     def near(self, board: str) -> list[Found]:
         """Returns the problems of which at most one man differs, moved over the board or not."""
         by_hash: dict[int, list[Variant]] = {}
-        for variant in variants(board):
+        for variant in sorted(variants(board), key=lambda one: len(one.how)):
             for one in hashes(variant.board):
                 by_hash.setdefault(one, []).append(variant)
         best: dict[int, Found] = {}
         for one, number, entry in self._with_hashes(list(by_hash)):
-            for variant in by_hash[one]:
-                changes = tuple(differences(variant.board, entry.board))
-                found = Found(entry, variant.how, changes)
-                if len(changes) <= 1 and (number not in best or _nearer(found, best[number])):
-                    best[number] = found
-        return [found for _, found in sorted(best.items(), key=_nearest_first)]
+            found = _simplest(by_hash[one], entry)
+            if found is not None and (number not in best or _rank(found) < _rank(best[number])):
+                best[number] = found
+        return [best[number] for number in sorted(best, key=lambda it: (*_rank(best[it]), it))]
 
     def _with_hashes(self, wanted: Sequence[int]) -> Iterator[tuple[int, int, Entry]]:
         """Yields the problems of these hashes, with hash and number.
@@ -419,19 +414,20 @@ def _is_within(date: str, dates: tuple[str, str]) -> bool:
 
 
 def _escaped(text: str) -> str:
-    for sign in "\\%_":
-        text = text.replace(sign, "\\" + sign)
-    return text
+    return re.sub(r"[\\%_]", r"\\\g<0>", text)
+
+
+def _simplest(variants: Iterable[Variant], entry: Entry) -> Optional[Found]:
+    """Returns the first variant, the simplest one, that a problem differs from by at most a man.
+
+    (All variants of one man have a hash in common: the one without it.)
+    """
+    for variant in variants:
+        changes = tuple(differences(variant.board, entry.board))
+        if len(changes) <= 1:
+            return Found(entry, variant.how, changes)
+    return None
 
 
 def _rank(found: Found) -> tuple[int, int]:
     return len(found.changes), len(found.how)
-
-
-def _nearer(found: Found, other: Found) -> bool:
-    return _rank(found) < _rank(other)
-
-
-def _nearest_first(numbered: tuple[int, Found]) -> tuple[int, int, int]:
-    number, found = numbered
-    return (*_rank(found), number)

@@ -11,7 +11,7 @@ from pops_companions.export.problems import Problem, read_problems
 from pops_companions.find.boards import board_of
 from pops_companions.find.dates import date_of
 from pops_companions.import_.words import Unreadable
-from pops_companions.report.items import Node, PhaseKind, SoundItem
+from pops_companions.report.items import Item, Node, PhaseKind, SoundItem
 from pops_companions.report.moves import Mark
 from pops_companions.report.reader import ReportError, read_report
 from pops_companions.review.mates import mates_in
@@ -107,20 +107,17 @@ def men_in(pieces: str) -> Iterator[tuple[Square, Man]]:
             colour = Colour(word.lower())
             continue
         man = Man(colour, Kind(found[1].upper()))
-        for place in range(0, len(found[2]), 2):
-            yield Square.of_name(found[2][place : place + 2]), man
+        for square in Square.of_names(found[2]):
+            yield square, man
 
 
 def _of_report(source: str, data: bytes, encoding: str) -> tuple[list[Entry], list[str]]:
     entries, left_out = [], []
-    try:
-        for item in read_report(io.BytesIO(data)):
-            if isinstance(item, SoundItem) and item.board is not None:
-                entries.append(_of_item(source, item, encoding))
-            else:
-                left_out.append(f"problem {item.number}: left out: the report shows no board")
-    except ReportError as error:
-        raise EntriesError(f"it is no report of pops: {error}") from None
+    for item in _items(data):
+        if isinstance(item, SoundItem) and item.board is not None:
+            entries.append(_of_item(source, item, encoding))
+        else:
+            left_out.append(f"problem {item.number}: left out: the report shows no board")
     return entries, left_out
 
 
@@ -141,11 +138,14 @@ def _of_item(source: str, item: SoundItem, encoding: str) -> Entry:
 
 def items_of(data: bytes) -> dict[int, SoundItem]:
     """Returns the sound problems of a report by their numbers. EntriesError for another text."""
+    return {item.number: item for item in _items(data) if isinstance(item, SoundItem)}
+
+
+def _items(data: bytes) -> Iterator[Item]:
     try:
-        items = [item for item in read_report(io.BytesIO(data)) if isinstance(item, SoundItem)]
+        yield from read_report(io.BytesIO(data))
     except ReportError as error:
         raise EntriesError(f"it is no report of pops: {error}") from None
-    return {item.number: item for item in items}
 
 
 def play_of(item: SoundItem) -> Optional[str]:

@@ -1,7 +1,7 @@
 """Men and squares among the words of a text."""
 
 import re
-from collections.abc import Mapping
+from collections.abc import Mapping, Sequence
 from typing import NamedTuple
 
 from pops_companions.chess.men import Colour, Kind, Man, Square
@@ -22,11 +22,6 @@ class PlacedMan(NamedTuple):
     line: int
 
 
-def squares_of(text: str) -> list[Square]:
-    """Returns the squares of a word that holds nothing else."""
-    return [Square.of_name(text[place : place + 2]) for place in range(0, len(text), 2)]
-
-
 def is_of_squares(word: Word) -> bool:
     return _SQUARES.fullmatch(word.key) is not None
 
@@ -37,7 +32,7 @@ def take_squares(words: Words, what: str) -> list[Square]:
     if word is None or not is_of_squares(word):
         found = "the end" if word is None else word.text
         raise Unreadable(words.line, f"{what} wants squares, as e4, and {found} follows")
-    return squares_of(words.take().key)
+    return Square.of_names(words.take().key)
 
 
 def take_pair(words: Words, what: str) -> tuple[Square, Square]:
@@ -59,26 +54,26 @@ def read_men(words: Words) -> list[PlacedMan]:
     """Colours and men, up to the first word that is neither."""
     language = words.language
     men: list[PlacedMan] = []
-    colour, attributes = "", ""
-    while True:
-        word = words.peek()
-        if word is None:
-            return men
+    colour = ""
+    attributes: list[str] = []
+    for word in words.ahead():
         named = meaning(word.key, language.colours)
         if named is not None:
             words.take()
-            colour, attributes = named, ""
+            colour, attributes = named, []
         elif is_attribute(word.key):
-            words.take()
-            attributes += word.text.title() + " "
+            # (each once: every man is named by all of them)
+            attribute = words.take().text.title()
+            attributes += [attribute] * (attribute not in attributes)
         else:
             letters, squares = _man_word(words, word)
             if not letters:
-                return men
+                break
             if not colour:
                 raise Unreadable(word.line, f"a colour is missing before {word.text}")
             man = _man(colour, attributes, letters, language.letters)
             men.extend(PlacedMan(square, man, word.line) for square in squares)
+    return men
 
 
 def _man_word(words: Words, word: Word) -> tuple[str, list[Square]]:
@@ -90,14 +85,16 @@ def _man_word(words: Words, word: Word) -> tuple[str, list[Square]]:
     if found is None:
         return "", []
     words.take()
-    return found[1], squares_of(found[2])
+    return found[1], Square.of_names(found[2])
 
 
-def _man(colour: str, attributes: str, letters: str, kinds: Mapping[str, Kind]) -> Placed:
+def _man(
+    colour: str, attributes: Sequence[str], letters: str, kinds: Mapping[str, Kind]
+) -> Placed:
     kind = kinds.get(letters)
     if kind is not None and colour != "neutral" and not attributes:
         return Man(Colour(colour), kind)
-    return f"{colour} {attributes}{letters.upper()}"
+    return " ".join((colour, *attributes, letters.upper()))
 
 
 def read_forsyth(text: str, kinds: Mapping[str, Kind]) -> dict[Square, Placed]:
@@ -131,7 +128,7 @@ def read_forsyth(text: str, kinds: Mapping[str, Kind]) -> dict[Square, Placed]:
             colour = "white" if letters[0].isupper() else "black"
             if at < 64:
                 shown = "neutral" if found["neutral"] else colour
-                men[diagram[at]] = _man(shown, "", letters.lower(), kinds)
+                men[diagram[at]] = _man(shown, (), letters.lower(), kinds)
             at += 1
     if at != 64:
         raise ValueError(f"{at} squares instead of 64")

@@ -2,9 +2,10 @@
 
 from typing import Optional
 
+from pops_companions.chess.men import Square
 from pops_companions.import_.draft import Draft
 from pops_companions.import_.language import OWN_OPTIONS, Option, meaning
-from pops_companions.import_.men import is_of_squares, squares_of, take_squares
+from pops_companions.import_.men import is_of_squares, take_squares
 from pops_companions.import_.words import Message, Unreadable, Words
 from pops_companions.input.reading import CASTLING_SQUARES, MOST_SOLUTIONS
 
@@ -34,10 +35,7 @@ _PLAIN = (Option.SET_PLAY, Option.VARIATION, Option.NO_BOARD)
 
 def read_options(words: Words, draft: Draft) -> None:
     """Options up to the first command."""
-    while True:
-        word = words.peek()
-        if word is None:
-            return
+    for word in words.ahead():
         key = word.key
         option: Optional[Option] = None
         if len(key) >= _LEAST_LETTERS:
@@ -108,11 +106,10 @@ def _solutions(words: Words) -> int:
 def _read_no_castling(words: Words, draft: Draft) -> None:
     """Squares in one or more words; those where no man can castle are left out."""
     squares = take_squares(words, Option.NO_CASTLING.value)
-    while True:
-        word = words.peek()
-        if word is None or not is_of_squares(word):
+    for word in words.ahead():
+        if not is_of_squares(word):
             break
-        squares += squares_of(words.take().key)
+        squares += Square.of_names(words.take().key)
     for square in squares:
         if square.name not in CASTLING_SQUARES:
             text = f"NoCastling {square.name} left out: no man on {square.name} can castle"

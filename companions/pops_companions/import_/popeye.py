@@ -122,20 +122,14 @@ class _Reader:
 
     def _skip_to(self, commands: Iterable[Command]) -> None:
         """Skips the words up to one of the commands."""
-        while True:
-            word = self._words.peek()
-            if word is None:
-                return
+        for word in self._words.ahead():
             command = self._command(word) if len(word.key) >= _LEAST_LETTERS else None
             if command is not None and command in commands:
                 return
             self._words.take()
 
     def _sections(self, draft: Draft) -> Command:
-        while True:
-            word = self._words.peek()
-            if word is None:
-                raise Unreadable(self._words.line, "the text ends before EndProblem")
+        for word in self._words.ahead():
             command = self._command(word)
             if command is None:
                 raise Unreadable(word.line, self._unknown(word))
@@ -143,6 +137,7 @@ class _Reader:
             if command in (Command.NEXT, Command.END):
                 return command
             self._section(command, draft)
+        raise Unreadable(self._words.line, "the text ends before EndProblem")
 
     def _unknown(self, word: Word) -> str:
         own = self._words.language

@@ -6,17 +6,19 @@ from dataclasses import dataclass, field, replace
 from typing import NamedTuple, Optional
 
 from pops_companions.chess.men import Colour, Kind, Man, Square
-from pops_companions.chess.stipulation import Condition, Goal, Play, Stipulation
+from pops_companions.chess.stipulation import Condition, Goal, Stipulation
 from pops_companions.import_.draft import Draft, Impossible, Options, Setting
 from pops_companions.import_.language import Command
 from pops_companions.import_.twins import with_other_colour
 from pops_companions.import_.words import Message
 from pops_companions.input.given import LONGEST_TEXT
-from pops_companions.input.reading import MOST_MOVES
+from pops_companions.input.reading import en_passant_wants
 from pops_companions.input.writing import pieces_line
 
-# How much of what is said of a whole problem its further twins repeat: Origins, and notes.
+# How much of what is said of a whole problem its further twins repeat: Origins, and notes, and how
+# many letters of each.
 _MOST_REPEATED = 20
+_MOST_LETTERS = 1000
 # How much of a stipulation or a condition that pops doesn't know is repeated, for each twin.
 _MOST_QUOTED = 100
 # The label of the problem that twins are made of.
@@ -216,9 +218,8 @@ class _Checked:
             return None
         if self._version.options.white_to_play:
             stipulation = self._with_white_to_play(stipulation)
-        least, most = (0, MOST_MOVES - 1) if stipulation.half_more else (1, MOST_MOVES)
-        if not least <= stipulation.moves <= most:
-            shown = _quoted(text)
+        if not stipulation.is_in_range:
+            shown, least, most = _quoted(text), stipulation.least_moves, stipulation.most_moves
             self.faults.append(f"stipulation {shown} has more or fewer moves than {least} to {most}")
         return stipulation
 
@@ -252,7 +253,7 @@ class _Checked:
         for square, man in self._men.items():
             if man.kind is Kind.PAWN and square.rank in (1, 8):
                 self.faults.append(f"a pawn is on {square.name}")
-        mated = Colour.WHITE if stipulation.play is Play.SELF else Colour.BLACK
+        mated = stipulation.last_side.opponent
         men = list(self._men.values())
         for colour in Colour:
             kings = men.count(Man(colour, Kind.KING))
@@ -277,14 +278,7 @@ class _Checked:
             self.faults.append(f"no pawn can just have crossed {name}")
 
     def _was_crossed(self, square: Square, starter: Colour) -> bool:
-        rank, step = (6, 1) if starter is Colour.WHITE else (3, -1)
-        home, arrival = Square(square.file, rank + step), Square(square.file, rank - step)
-        return (
-            square.rank == rank
-            and square not in self._men
-            and home not in self._men
-            and self._men.get(arrival) == Man(starter.opponent, Kind.PAWN)
-        )
+        return en_passant_wants(self._men, starter, square).holds
 
     def lines(self) -> list[str]:
         """Returns men, stipulation, condition and options."""
@@ -323,12 +317,23 @@ def _texts(said: _Said, version: _Version, notes: list[Message], is_first: bool)
             notes.append(Message(version.line, shortened))
         if text or label:
             lines.append(" ".join(filter(None, (command.value, text, label))))
-    most = None if is_first else _MOST_REPEATED
-    lines += [f"Origin {text}" for text in said.origins[:most]]
+    origins, told = said.origins, [note.text for note in said.notes]
+    if not is_first:
+        origins, told = _repeated(origins), _repeated(told)
+    lines += [f"Origin {text}" for text in origins]
     remarks += [*(said.remarks if is_first else ()), *said.wanted, *version.remarks]
-    remarks += [note.text for note in [*said.notes[:most], *notes]]
+    remarks += [*told, *(note.text for note in notes)]
     lines += [f"Remark {remark}" for remark in remarks if remark]
     return [line.replace("\n", " ") for line in lines]
+
+
+def _repeated(texts: list[str]) -> list[str]:
+    """Returns the texts that further twins repeat: the first ones, as far as there is room."""
+    end, letters = 0, 0
+    while end < min(len(texts), _MOST_REPEATED) and letters + len(texts[end]) <= _MOST_LETTERS:
+        letters += len(texts[end])
+        end += 1
+    return texts[:end]
 
 
 def _quoted(text: str) -> str:

@@ -9,8 +9,8 @@ from pops_companions.import_.words import Unreadable, Word, Words
 
 _LEAST_LETTERS = 3
 _CONDITIONS = table_of((condition.value, condition.value) for condition in Condition)
-
-
+# pops knows no two at once, and a message names fewer.
+_MOST_CONDITIONS = 100
 # As 2, 2.1.1.1 and 2.1..: how many solutions there are, by how many half-moves they part.
 _MOST_WANTED = 999_999_999
 _WANTED = re.compile(r"[1-9][0-9]{0,8}(\.[1-9][0-9]{0,8})*\.*")
@@ -33,12 +33,8 @@ def wanted_of(text: str) -> Optional[int]:
 def take_wanted(words: Words) -> tuple[Optional[int], str]:
     """Takes a number of solutions with points after a stipulation, as 2.1..; and its text."""
     word = words.peek()
-    if word is None or "." not in word.text:
-        return None, ""
-    wanted = wanted_of(word.text)
-    if wanted is None:
-        return None, ""
-    return wanted, words.take().text
+    wanted = None if word is None or "." not in word.text else wanted_of(word.text)
+    return (None, "") if wanted is None else (wanted, words.take().text)
 
 
 def take_stipulation(words: Words) -> str:
@@ -73,10 +69,7 @@ def take_conditions(words: Words, before: tuple[str, ...] = ()) -> tuple[str, ..
     A condition that stands twice is one.
     """
     conditions: list[str] = []
-    while True:
-        word = words.peek()
-        if word is None:
-            break
+    for word in words.ahead():
         if _is_command(word, words):
             break
         twinning = meaning(word.key, words.language.twinnings)
@@ -85,4 +78,4 @@ def take_conditions(words: Words, before: tuple[str, ...] = ()) -> tuple[str, ..
         words.take()
         known = meaning(word.key, _CONDITIONS) if len(word.key) >= _LEAST_LETTERS else None
         conditions.append(known or word.text)
-    return tuple(dict.fromkeys(before + tuple(conditions)))
+    return tuple(dict.fromkeys(before + tuple(conditions)))[:_MOST_CONDITIONS]

@@ -12,6 +12,9 @@ from pops_companions.import_.sections import take_conditions, take_stipulation
 from pops_companions.import_.words import Unreadable, Words
 
 Moved = Callable[[int, int], tuple[int, int]]
+Men = dict[Square, Placed]
+# The words of a change of men, and what it makes of them: as in a Change.
+ChangeOfMen = tuple[str, Callable[[Men, list[str]], Men]]
 
 # Where a square of a file and a rank goes; a quarter is clockwise, as a1 to a8.
 _TURNS: dict[str, tuple[Moved, str]] = {
@@ -32,9 +35,8 @@ def read_twin(words: Words, twin: Twin) -> None:
     """Reads the changes of a twin, up to the first word that is none."""
     words.of_twin = True
     try:
-        while True:
-            word = words.peek()
-            twinning = None if word is None else meaning(word.key, words.language.twinnings)
+        for word in words.ahead():
+            twinning = meaning(word.key, words.language.twinnings)
             if twinning is None:
                 return
             words.take()
@@ -54,26 +56,16 @@ def _change(words: Words, twinning: Twinning) -> Change:
         return Change(f"{name} {text}", line, lambda setting, _: replace(setting, stipulation=text))
     if twinning is Twinning.CONDITION:
         given = take_conditions(words)
-        said = " ".join((name, *given))
-        return Change(said, line, lambda setting, _: replace(setting, conditions=given))
-    if twinning in (Twinning.MOVE, Twinning.EXCHANGE, Twinning.SHIFT):
-        one, other = take_pair(words, name)
-        made = {Twinning.MOVE: _move, Twinning.EXCHANGE: _exchange, Twinning.SHIFT: _shift}
-        return Change(f"{name} {one.name} {other.name}", line, made[twinning](one, other))
-    if twinning is Twinning.REMOVE:
-        squares = take_squares(words, name)
-        return Change(f"{name} {''.join(one.name for one in squares)}", line, _remove(squares))
-    if twinning is Twinning.ADD:
-        return _add(read_men(words), line)
-    if twinning is Twinning.SUBSTITUTE:
-        return _substitute(words)
-    if twinning is Twinning.ROTATE:
-        return _rotate(words)
-    if twinning is Twinning.MIRROR:
-        return _mirror(words)
-    if twinning is Twinning.POLISH_TYPE:
-        return Change(name, line, _polish)
-    raise Unreadable(line, f"pops knows no {name}")
+        text = " ".join((name, *given))
+        return Change(text, line, lambda setting, _: replace(setting, conditions=given))
+    if twinning not in _CHANGES_OF_MEN:
+        raise Unreadable(line, f"pops knows no {name}")
+    text, changed = _CHANGES_OF_MEN[twinning](words, name)
+
+    def made(setting: Setting, said: list[str]) -> Setting:
+        return replace(setting, men=changed(dict(setting.men), said))
+
+    return Change(f"{name} {text}".rstrip(), line, made)
 
 
 def _value(words: Words, what: str) -> str:
@@ -87,55 +79,59 @@ def _replaced(square: Square, said: list[str]) -> None:
     said.append(f"the man on {square.name} is replaced")
 
 
-def _move(origin: Square, arrival: Square) -> Callable[[Setting, list[str]], Setting]:
-    def made(setting: Setting, said: list[str]) -> Setting:
-        men = dict(setting.men)
+def _move(words: Words, name: str) -> ChangeOfMen:
+    origin, arrival = take_pair(words, name)
+
+    def changed(men: Men, said: list[str]) -> Men:
         if origin not in men:
             raise Impossible(f"there is no man on {origin.name} to move")
         if arrival in men and arrival != origin:
             _replaced(arrival, said)
         men[arrival] = men.pop(origin)
-        return replace(setting, men=men)
+        return men
 
-    return made
+    return f"{origin.name} {arrival.name}", changed
 
 
-def _exchange(one: Square, other: Square) -> Callable[[Setting, list[str]], Setting]:
-    def made(setting: Setting, _: list[str]) -> Setting:
+def _exchange(words: Words, name: str) -> ChangeOfMen:
+    one, other = take_pair(words, name)
+
+    def changed(men: Men, _: list[str]) -> Men:
         for square in (one, other):
-            if square not in setting.men:
+            if square not in men:
                 raise Impossible(f"there is no man on {square.name} to exchange")
-        men = dict(setting.men)
         men[one], men[other] = men[other], men[one]
-        return replace(setting, men=men)
+        return men
 
-    return made
+    return f"{one.name} {other.name}", changed
 
 
-def _remove(squares: list[Square]) -> Callable[[Setting, list[str]], Setting]:
-    def made(setting: Setting, _: list[str]) -> Setting:
-        men = dict(setting.men)
+def _remove(words: Words, name: str) -> ChangeOfMen:
+    squares = take_squares(words, name)
+
+    def changed(men: Men, _: list[str]) -> Men:
         for square in squares:
             if men.pop(square, None) is None:
                 raise Impossible(f"there is no man on {square.name} to remove")
-        return replace(setting, men=men)
+        return men
 
-    return made
+    return "".join(one.name for one in squares), changed
 
 
-def _add(added: list[PlacedMan], line: int) -> Change:
+def _add(words: Words, _: str) -> ChangeOfMen:
+    line = words.line
+    added = read_men(words)
     if not added:
         raise Unreadable(line, "a colour and men are missing after Add")
 
-    def made(setting: Setting, said: list[str]) -> Setting:
-        men = dict(setting.men)
+    def changed(men: Men, said: list[str]) -> Men:
         for one in added:
             if one.square in men:
                 _replaced(one.square, said)
             men[one.square] = one.man
-        return replace(setting, men=men)
+        return men
 
-    return Change("Add " + ", ".join(_named(one) for one in added), line, made)
+    return ", ".join(_named(one) for one in added), changed
 
 
 def _named(one: PlacedMan) -> str:
@@ -144,31 +140,27 @@ def _named(one: PlacedMan) -> str:
     return f"{one.man}{one.square.name}"
 
 
-def _substitute(words: Words) -> Change:
+def _substitute(words: Words, name: str) -> ChangeOfMen:
     line = words.line
     letters = words.language.letters
-    texts = [_value(words, "Substitute") for _ in range(2)]
+    texts = [_value(words, name) for _ in range(2)]
     kinds = [letters.get(text) for text in texts]
     if None in kinds:
         raise Unreadable(line, f"pops knows no Substitute {' '.join(texts).upper()}")
     one, other = [kind for kind in kinds if kind is not None]
 
-    def made(setting: Setting, _: list[str]) -> Setting:
-        return _each_man(setting, lambda man: _of_kind(man, one, other))
+    def changed(men: Men, _: list[str]) -> Men:
+        return {square: _of_kind(man, one, other) for square, man in men.items()}
 
-    return Change(f"Substitute {one.value} {other.value}", line, made)
+    return f"{one.value} {other.value}", changed
 
 
 def _of_kind(man: Placed, one: Kind, other: Kind) -> Placed:
     return Man(man.colour, other) if isinstance(man, Man) and man.kind is one else man
 
 
-def _each_man(setting: Setting, changed: Callable[[Placed], Placed]) -> Setting:
-    return replace(setting, men={square: changed(man) for square, man in setting.men.items()})
-
-
-def _polish(setting: Setting, _: list[str]) -> Setting:
-    return _each_man(setting, with_other_colour)
+def _polish(_: Words, __: str) -> ChangeOfMen:
+    return "", lambda men, _: {square: with_other_colour(man) for square, man in men.items()}
 
 
 def with_other_colour(man: Placed) -> Placed:
@@ -181,24 +173,24 @@ def with_other_colour(man: Placed) -> Placed:
     return man
 
 
-def _rotate(words: Words) -> Change:
+def _rotate(words: Words, name: str) -> ChangeOfMen:
     line = words.line
-    angle = _value(words, "Rotate")
+    angle = _value(words, name)
     if angle not in _TURNS:
         raise Unreadable(line, f"Rotate {angle} isn't one of 90, 180 and 270")
     moved, direction = _TURNS[angle]
 
-    def made(setting: Setting, said: list[str]) -> Setting:
+    def changed(men: Men, said: list[str]) -> Men:
         if direction:
             said.append(f"Rotate {angle} is {direction}")
-        return _each_square(setting, moved)
+        return _each_square(men, moved)
 
-    return Change(f"Rotate {angle}", line, made)
+    return angle, changed
 
 
-def _mirror(words: Words) -> Change:
+def _mirror(words: Words, name: str) -> ChangeOfMen:
     line = words.line
-    text = _value(words, "Mirror")
+    text = _value(words, name)
     corners = _MIRROR.fullmatch(text)
     key = "".join(sorted(corners.groups())) if corners else ""
     if key not in _MIRRORS:
@@ -206,23 +198,34 @@ def _mirror(words: Words) -> Change:
             line, f"Mirror {text} isn't one of a1<-->h1, a1<-->a8, a1<-->h8 and h1<-->a8"
         )
     moved = _MIRRORS[key]
-    return Change(
-        f"Mirror {key[:2]}<-->{key[2:]}", line, lambda setting, _: _each_square(setting, moved)
-    )
+    return f"{key[:2]}<-->{key[2:]}", lambda men, _: _each_square(men, moved)
 
 
-def _shift(origin: Square, arrival: Square) -> Callable[[Setting, list[str]], Setting]:
+def _shift(words: Words, name: str) -> ChangeOfMen:
+    origin, arrival = take_pair(words, name)
     files, ranks = arrival.file - origin.file, arrival.rank - origin.rank
 
-    def made(setting: Setting, _: list[str]) -> Setting:
-        for square in setting.men:
+    def changed(men: Men, _: list[str]) -> Men:
+        for square in men:
             if not (1 <= square.file + files <= 8 and 1 <= square.rank + ranks <= 8):
                 raise Impossible(f"Shift moves the man on {square.name} off the board")
-        return _each_square(setting, lambda file, rank: (file + files, rank + ranks))
+        return _each_square(men, lambda file, rank: (file + files, rank + ranks))
 
-    return made
+    return f"{origin.name} {arrival.name}", changed
 
 
-def _each_square(setting: Setting, moved: Moved) -> Setting:
-    men = {Square(*moved(square.file, square.rank)): man for square, man in setting.men.items()}
-    return replace(setting, men=men)
+def _each_square(men: Men, moved: Moved) -> Men:
+    return {Square(*moved(square.file, square.rank)): man for square, man in men.items()}
+
+
+_CHANGES_OF_MEN: dict[Twinning, Callable[[Words, str], ChangeOfMen]] = {
+    Twinning.MOVE: _move,
+    Twinning.EXCHANGE: _exchange,
+    Twinning.REMOVE: _remove,
+    Twinning.ADD: _add,
+    Twinning.SUBSTITUTE: _substitute,
+    Twinning.POLISH_TYPE: _polish,
+    Twinning.ROTATE: _rotate,
+    Twinning.MIRROR: _mirror,
+    Twinning.SHIFT: _shift,
+}

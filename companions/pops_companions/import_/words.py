@@ -1,6 +1,7 @@
 """The words of a text, one after another, as Popeye parts them."""
 
 import re
+from collections.abc import Iterator
 from typing import NamedTuple, Optional
 
 from pops_companions.import_.language import TEXT_COMMANDS, Command, Language, folded, meaning
@@ -71,6 +72,13 @@ class Words:
         if self._next is None:
             self._next = self._found()
         return self._next
+
+    def ahead(self) -> Iterator[Word]:
+        """Yields the word that is next then, up to the end of the text."""
+        word = self.peek()
+        while word is not None:
+            yield word
+            word = self.peek()
 
     def take(self) -> Word:
         """Takes the next word; there has to be one."""

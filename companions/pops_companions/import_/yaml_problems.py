@@ -83,7 +83,8 @@ def _read_key(key: str, value: Node, draft: Draft) -> None:
 
 
 def _read_key_of_database(key: str, value: Node, draft: Draft) -> None:
-    draft.key = draft.key or _one_line(value, " ")
+    # (a table of twins has it in each row)
+    draft.key = draft.key or _shortened(_one_line(value, " "))
     _read_other(key, value, draft)
 
 

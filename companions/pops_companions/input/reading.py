@@ -4,18 +4,19 @@ The report of pops decides what the fault is; this reading finds the faulty word
 """
 
 import re
-from collections.abc import Iterator
+from collections.abc import Iterator, Mapping
 from dataclasses import dataclass, field, replace
 from enum import Enum, IntEnum
 from typing import Optional
 
 from pops_companions.chess.attacks import attackers
 from pops_companions.chess.men import Colour, Kind, Man, Square
-from pops_companions.chess.stipulation import Condition, Play, Stipulation
+from pops_companions.chess.stipulation import Condition, Stipulation
 from pops_companions.input.pieces import Piece
 from pops_companions.input.words import (
     BLANKS,
     LONGEST_WORD,
+    Span,
     TextLine,
     Token,
     Word,
@@ -26,7 +27,6 @@ from pops_companions.input.words import (
 COLOURS = tuple(colour.name.title() for colour in Colour)
 CONDITIONS = tuple(condition.value for condition in Condition)
 CLOSING = ("NextProblem", "EndProblem")
-MOST_MOVES = 16
 MOST_SOLUTIONS = 4_000_000_000
 CASTLING_SQUARES = ("a1", "e1", "h1", "a8", "e8", "h8")
 
@@ -98,10 +98,7 @@ class FaultKind(IntEnum):
 
 def squares_of(word: bytes) -> list[Square]:
     """Returns the squares of a word that is nothing but squares, else none."""
-    if not _SQUARES.fullmatch(word):
-        return []
-    small = word.decode("ascii").lower()
-    return [Square.of_name(small[place : place + 2]) for place in range(0, len(small), 2)]
+    return Square.of_names(word.decode("ascii").lower()) if _SQUARES.fullmatch(word) else []
 
 
 def kind_of(word: bytes) -> Optional[Kind]:
@@ -128,14 +125,7 @@ def stipulation_of(word: bytes) -> Optional[Stipulation]:
         stipulation = Stipulation.of_text(word.decode("ascii").lower())
     except ValueError:
         return None
-    least = 0 if stipulation.half_more else 1
-    most = MOST_MOVES - 1 if stipulation.half_more else MOST_MOVES
-    return stipulation if least <= stipulation.moves <= most else None
-
-
-def to_be_mated(stipulation: Stipulation) -> Colour:
-    """Returns the side that is to be mated or stalemated."""
-    return Colour.WHITE if stipulation.play is Play.SELF else Colour.BLACK
+    return stipulation if stipulation.is_in_range else None
 
 
 @dataclass(frozen=True)
@@ -147,9 +137,9 @@ class Placed:
     span_start: int
 
     @property
-    def square_span(self) -> tuple[int, int]:
-        """Where in the word the square stands."""
-        return self.span_start, self.span_start + 2
+    def span(self) -> Span:
+        """Where its square stands."""
+        return self.word.part(self.span_start, self.span_start + 2)
 
 
 @dataclass
@@ -195,6 +185,11 @@ class Reading:
         token = self.tokens[self.at]
         assert isinstance(token, Word)
         return token
+
+    @property
+    def position(self) -> dict[Square, Man]:
+        """The men on their squares."""
+        return {square: placed.man for square, placed in self.men.items()}
 
     @property
     def words(self) -> list[Word]:
@@ -466,9 +461,10 @@ def _end_fault(reading: Reading) -> Optional[FaultKind]:
         return FaultKind.STIPULATION_MISSING
     if not reading.men:
         return FaultKind.NO_MEN
-    if reading.crossed is not None and not en_passant_wants(reading).holds:
+    starter, crossed = reading.stipulation.starter, reading.crossed
+    if crossed is not None and not en_passant_wants(reading.position, starter, crossed).holds:
         return FaultKind.EN_PASSANT_IMPOSSIBLE
-    if king_of(reading, to_be_mated(reading.stipulation)) is None:
+    if king_of(reading, reading.stipulation.last_side.opponent) is None:
         if reading.stipulation.goal.value == "#":
             return FaultKind.KING_MISSING
     return FaultKind.WAITING_SIDE_IN_CHECK if checkers(reading) else None
@@ -483,7 +479,6 @@ class EnPassantWants:
     home: Square
     pawn_stands: bool
     occupied: list[Square]
-
     right_rank: bool
 
     @property
@@ -491,19 +486,18 @@ class EnPassantWants:
         return self.right_rank and self.pawn_stands and not self.occupied
 
 
-def en_passant_wants(reading: Reading) -> EnPassantWants:
-    """Returns what the square of EnPassant needs, and whether it has it."""
-    assert reading.stipulation is not None and reading.crossed is not None
-    starter, crossed = reading.stipulation.starter, reading.crossed
+def en_passant_wants(
+    men: Mapping[Square, Man], starter: Colour, crossed: Square
+) -> EnPassantWants:
+    """Returns what a square of EnPassant needs among these men, and whether it has it."""
     rank, pawn_rank, home_rank = (6, 5, 7) if starter is Colour.WHITE else (3, 4, 2)
     pawn, home = Square(crossed.file, pawn_rank), Square(crossed.file, home_rank)
-    placed = reading.men.get(pawn)
     return EnPassantWants(
         rank,
         pawn,
         home,
-        placed is not None and placed.man == Man(starter.opponent, Kind.PAWN),
-        [square for square in (crossed, home) if square in reading.men],
+        men.get(pawn) == Man(starter.opponent, Kind.PAWN),
+        [square for square in (crossed, home) if square in men],
         crossed.rank == rank,
     )
 
@@ -515,5 +509,4 @@ def checkers(reading: Reading) -> list[Square]:
     king = king_of(reading, waiting)
     if king is None:
         return []
-    men = {square: placed.man for square, placed in reading.men.items()}
-    return attackers(men, king, waiting.opponent, reading.condition is Condition.MADRASI)
+    return attackers(reading.position, king, waiting.opponent, reading.condition is Condition.MADRASI)

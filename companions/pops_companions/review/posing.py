@@ -5,9 +5,9 @@ from collections.abc import Iterable, Iterator
 from dataclasses import dataclass, replace
 from typing import Optional
 
-from pops_companions.chess.stipulation import Condition, Play, Stipulation
+from pops_companions.chess.stipulation import MOST_MOVES, Condition, Play, Stipulation
 from pops_companions.input.given import GivenProblem
-from pops_companions.input.reading import MOST_MOVES, Section
+from pops_companions.input.reading import Section
 from pops_companions.input.words import is_short_for
 from pops_companions.report.items import AnyItem, Board, PhaseKind, SoundItem
 
