@@ -295,14 +295,14 @@ class Command(unittest.TestCase):
         with tempfile.TemporaryDirectory() as room:
             text = (REPORT.split("problem 2")[0] + "problem 2\n").encode()
             outcome = support.companion("pops-diagram", "--svg", "-o", room, text=text)
-            self.assertEqual(outcome.status, 1)
+            self.assertEqual(outcome.status, 3)
             self.assertIn("standard input is no report of pops: line ", outcome.error)
             self.assertEqual([path.name for path in Path(room).iterdir()], ["problem-1.svg"])
 
     def test_mistakes_have_a_line_and_a_status(self) -> None:
         empty = support.companion("pops-diagram", "--svg", "-o", "nowhere/")
         told = "pops-diagram: standard input is empty: no report of pops\n"
-        self.assertEqual(empty, (1, b"", told))
+        self.assertEqual(empty, (3, b"", told))
         self.assertFalse(Path("nowhere").exists())
         self.assertEqual(support.companion("pops-diagram", "--svg", "nowhere.report").status, 3)
         mistakes: list[list[str]] = [[], ["--svg", "--png"], ["--gif"], ["--png", "--width", "0"]]

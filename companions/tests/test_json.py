@@ -197,7 +197,7 @@ class Events(unittest.TestCase):
             end, {"event": "end", "problem": 7, "unfinished": "the report ends here"}
         )
         outcome = support.companion("pops2json", "--events", text=report)
-        self.assertEqual(outcome.status, 1)
+        self.assertEqual(outcome.status, 3)
         self.assertEqual(
             outcome.error,
             "pops2json: standard input is no report of pops:"
@@ -265,7 +265,7 @@ class Tries(unittest.TestCase):
         (one,) = objects(cut, "--tries", "--unfinished")
         self.assertEqual((one["tries"], one["unfinished"]), ([], "the report ends here"))
         outcome = support.companion("pops2json", "--tries", text=cut)
-        self.assertEqual(outcome.status, 1)
+        self.assertEqual(outcome.status, 3)
         self.assertIn("standard input is no text of pops-tries: line ", outcome.error)
 
     def test_help_play_has_none(self) -> None:
@@ -361,7 +361,7 @@ class Schema(unittest.TestCase):
 class Command(unittest.TestCase):
     def test_mistakes_have_a_line_and_a_status(self) -> None:
         cut = support.companion("pops2json", text=b"problem 1\n#1\nsound\n\nproblem 2\n")
-        self.assertEqual(cut.status, 1)
+        self.assertEqual(cut.status, 3)
         self.assertEqual(
             cut.error,
             "pops2json: standard input is no report of pops:"
@@ -370,7 +370,7 @@ class Command(unittest.TestCase):
         for words in ((), ("--array",)):
             empty = support.companion("pops2json", *words)
             told = "pops2json: standard input is empty: no report of pops\n"
-            self.assertEqual(empty, (1, b"", told))
+            self.assertEqual(empty, (3, b"", told))
         self.assertEqual(support.companion("pops2json", "nowhere.report").status, 3)
         self.assertEqual(support.companion("pops2json", "--fast").status, 2)
         self.assertEqual(support.companion("pops2json", "--encoding", "no-such").status, 2)

@@ -291,7 +291,7 @@ class Command(unittest.TestCase):
             target = Path(room) / "page.html"
             target.write_text("old")
             outcome = support.companion("pops-page", "-o", str(target), text=b"problem 1\n#0.5\n")
-            self.assertEqual(outcome.status, 1)
+            self.assertEqual(outcome.status, 3)
             self.assertIn("standard input is no report of pops: line 2", outcome.error)
             self.assertEqual(target.read_text(), "old")
             self.assertEqual(len(list(Path(room).iterdir())), 1)
@@ -302,7 +302,7 @@ class Command(unittest.TestCase):
             report.touch()
             outcome = support.companion("pops-page", str(report), "-o", str(target))
             told = f"pops-page: {report} is empty: no report of pops\n"
-            self.assertEqual(outcome, (1, b"", told))
+            self.assertEqual(outcome, (3, b"", told))
             self.assertFalse(target.exists())
 
     def test_mistakes_have_a_line_and_a_status(self) -> None:

@@ -124,9 +124,9 @@ def _events(name: str, source: BinaryIO, reader: ReportReader, text: Text) -> It
         yield from read_events(reader, pieces)
     except ReportError as error:
         message = _refusal(name, pieces.first_line, error, text)
-        raise CommandError(Status.FAULTY, message) from None
+        raise CommandError(Status.DEVICE, message) from None
     if pieces.is_empty:
-        raise CommandError(Status.FAULTY, f"{name} is empty: no {text.value}")
+        raise CommandError(Status.DEVICE, f"{name} is empty: no {text.value}")
 
 
 def _merged(
@@ -145,7 +145,7 @@ def _merged(
         message = (
             f"--unfinished isn't of {name}: both have a problem, or a file holds several reports"
         )
-        raise CommandError(Status.FAULTY, message)
+        raise CommandError(Status.DEVICE, message)
     return items
 
 
@@ -219,12 +219,12 @@ class NamedText:
                 yield item
         except ReportError as error:
             message = _refusal(self._name, noted.first_line, error, self._text)
-            raise CommandError(Status.FAULTY, message) from None
+            raise CommandError(Status.DEVICE, message) from None
 
     def end(self, may_be_empty: bool = False) -> None:
         """Refuses a text without items, and says whose names aren't in the encoding."""
         if self._is_empty and not may_be_empty:
-            raise CommandError(Status.FAULTY, f"{self._name} is empty: no {self._text.value}")
+            raise CommandError(Status.DEVICE, f"{self._name} is empty: no {self._text.value}")
         _warn_of_names(self._companion, self._name, self.undecodable, self._encoding)
 
 
