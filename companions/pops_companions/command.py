@@ -16,7 +16,7 @@ from contextlib import contextmanager, suppress
 from enum import IntEnum
 from functools import lru_cache
 from itertools import takewhile
-from typing import Any, BinaryIO, NoReturn, Optional, TextIO, Union, cast
+from typing import Any, BinaryIO, ClassVar, NamedTuple, NoReturn, Optional, TextIO, Union, cast
 
 from pops_companions import files, places
 
@@ -82,15 +82,62 @@ def _columns() -> int:
         return 80
 
 
-def parser(name: str, description: str, **more: object) -> argparse.ArgumentParser:
+class OneOf:
+    """Options that exclude each other; one of them may be needed."""
+
+    def __init__(self, is_needed: bool = False):
+        self.is_needed = is_needed
+
+
+class Option(NamedTuple):
+    """An option of a command line, or a word without a name, and what argparse takes of it."""
+
+    names: tuple[str, ...]
+    more: dict[str, Any]
+
+
+def option(names: str, metavar: Optional[str], said: str, **more: Any) -> Any:
+    """Declares an attribute of `Settings`: an option with a value."""
+    return Option(tuple(names.split()), {"metavar": metavar, "help": said, **more})
+
+
+def flag(name: str, said: str, **more: Any) -> Any:
+    """Declares an attribute of `Settings`: whether an option is given."""
+    return Option((name,), {"help": said, "action": "store_true", **more})
+
+
+def word(metavar: str, said: str, **more: Any) -> Any:
+    """Declares an attribute of `Settings`: a word that has its place."""
+    return Option((), {"metavar": metavar, "help": said, **more})
+
+
+class Settings(argparse.Namespace):
+    """The words of a command line. A companion's own class declares them in the order of the help."""
+
+    declared: ClassVar[dict[str, Option]] = {}
+
+    def __init_subclass__(cls) -> None:
+        # (argparse gives no default to an attribute that is there)
+        cls.declared = {name: it for name, it in vars(cls).items() if isinstance(it, Option)}
+        for name in cls.declared:
+            delattr(cls, name)
+
+
+def parser(
+    name: str, description: str, settings: type[Settings] = Settings, **more: Any
+) -> argparse.ArgumentParser:
     """Returns a reader of a companion's arguments, which knows `--version`."""
     made = argparse.ArgumentParser(
-        prog=name,
-        description=description,
-        formatter_class=_HelpFormatter,
-        **more,  # type: ignore[arg-type]
+        prog=name, description=description, formatter_class=_HelpFormatter, **more
     )
     made.add_argument("--version", action="version", version=f"%(prog)s {places.version()}")
+    groups: dict[Optional[OneOf], argparse._ActionsContainer] = {None: made}
+    for attribute, (names, said) in settings.declared.items():
+        given = {"dest": attribute, **said} if names else dict(said)
+        one_of = given.pop("one_of", None)
+        if one_of not in groups:
+            groups[one_of] = made.add_mutually_exclusive_group(required=one_of.is_needed)
+        groups[one_of].add_argument(*(names or [attribute]), **given)
     return made
 
 
@@ -304,16 +351,26 @@ def jobs(text: str) -> int:
     return number
 
 
+_SECONDS_SAID = f"stop a problem after N seconds ({_SECONDS:g}); 0 is no limit"
+SECONDS: Any = option("--seconds", "N", _SECONDS_SAID, type=seconds, default=_SECONDS)
+JOBS: Any = option("-j --jobs", "N", "runs at a time", type=jobs)
+REPORT: Any = word("REPORT", "the report (default: standard input)", nargs="?")
+UNFINISHED: Any = option(
+    "--unfinished",
+    "FILE",
+    "what pops-many kept of problems that it stopped (REPORT.unfinished, if it is there)",
+)
+
+
+def output(what: str, metavar: str = "FILE") -> Any:
+    """Declares the option for what is written."""
+    return option("-o --output", metavar, f"{what} (default: standard output)")
+
+
 def add_limits(parser: argparse.ArgumentParser) -> None:
     """Adds the options for the seconds of a problem, and for how many programs run at a time."""
-    parser.add_argument(
-        "--seconds",
-        type=seconds,
-        default=_SECONDS,
-        metavar="N",
-        help=f"stop a problem after N seconds ({_SECONDS:g}); 0 is no limit",
-    )
-    parser.add_argument("-j", "--jobs", type=jobs, metavar="N", help="runs at a time")
+    for one in (SECONDS, JOBS):
+        parser.add_argument(*one.names, **one.more)
 
 
 def _is_of_lines(encoding: str) -> bool:
@@ -337,23 +394,24 @@ def is_of_text(encoding: str) -> bool:
         return False
 
 
-def add_encoding(
-    parser: argparse.ArgumentParser, fits: Callable[[str], bool] = _is_of_lines
-) -> None:
-    """Adds the option for the encoding of titles and authors, which has to fit."""
+def encoding(fits: Callable[[str], bool] = _is_of_lines) -> Any:
+    """Declares the option for the encoding of titles and authors, which has to fit."""
 
-    def encoding(name: str) -> str:
+    def fitting(name: str) -> str:
         if not fits(name):
             raise argparse.ArgumentTypeError(f"no encoding of lines of text is called {name}")
         return name
 
-    parser.add_argument(
-        "--encoding",
-        type=encoding,
-        default="utf-8",
-        metavar="NAME",
-        help="the encoding of titles and authors (utf-8)",
-    )
+    said = "the encoding of titles and authors (utf-8)"
+    return option("--encoding", "NAME", said, type=fitting, default="utf-8")
+
+
+def add_encoding(
+    parser: argparse.ArgumentParser, fits: Callable[[str], bool] = _is_of_lines
+) -> None:
+    """Adds the option for the encoding of titles and authors, which has to fit."""
+    one = encoding(fits)
+    parser.add_argument(*one.names, **one.more)
 
 
 @contextmanager

@@ -1,13 +1,12 @@
 """Writes a report of pops, or a text of pops-tries, as JSON: one object an item or an event."""
 
-import argparse
 import json
 from collections.abc import Iterator
 from contextlib import AbstractContextManager
 from typing import Optional, Union
 
 from pops_companions import command
-from pops_companions.command import Status
+from pops_companions.command import Status, flag, option
 from pops_companions.input.given_source import read_given
 from pops_companions.report.items import AnyItem
 from pops_companions.report.reader import Allowed
@@ -24,18 +23,28 @@ from pops_companions.show.as_json import Form, Json, event_object, item_object, 
 NAME = "pops2json"
 
 
-class Settings(argparse.Namespace):
+class Settings(command.Settings):
     """The words of the command line."""
 
-    report: Optional[str]
-    output: Optional[str]
-    input: Optional[str]
-    array: bool
-    schema: bool
-    events: bool
-    tries: bool
-    unfinished: bool
-    encoding: str
+    report: Optional[str] = command.REPORT
+    output: Optional[str] = command.output("the JSON")
+    input: Optional[str] = option(
+        "--input",
+        "INPUT",
+        "the input of the report: its Origin lines, and the names of faulty problems",
+    )
+    array: bool = flag("--array", "one array of all the objects")
+    events: bool = flag(
+        "--events", "one object for each line, move and total, written as soon as it comes"
+    )
+    tries: bool = flag("--tries", "REPORT is a text of pops-tries")
+    unfinished: bool = flag(
+        "--unfinished",
+        "REPORT may end in a problem, as where pops was stopped; what pops-many kept in"
+        " REPORT.unfinished is added",
+    )
+    schema: bool = flag("--schema", "write the JSON Schema of an object; reads no report")
+    encoding: str = command.encoding()
 
     @property
     def allowed(self) -> Allowed:
@@ -100,32 +109,10 @@ def arguments(words: list[str]) -> Settings:
         NAME,
         "Writes a report of pops as JSON, one object per problem, each on its line.\n"
         "docs/COMPANIONS.md explains the objects; --schema prints their JSON Schema.",
+        Settings,
         epilog="examples: pops problems.pop | pops2json -o problems.json\n"
         "          pops long.pop | pops2json --events",
     )
-    add = parser.add_argument
-    add("report", nargs="?", metavar="REPORT", help="the report (default: standard input)")
-    add("-o", "--output", metavar="FILE", help="the JSON (default: standard output)")
-    add(
-        "--input",
-        metavar="INPUT",
-        help="the input of the report: its Origin lines, and the names of faulty problems",
-    )
-    add("--array", action="store_true", help="one array of all the objects")
-    add(
-        "--events",
-        action="store_true",
-        help="one object for each line, move and total, written as soon as it comes",
-    )
-    add("--tries", action="store_true", help="REPORT is a text of pops-tries")
-    add(
-        "--unfinished",
-        action="store_true",
-        help="REPORT may end in a problem, as where pops was stopped; what pops-many kept in"
-        " REPORT.unfinished is added",
-    )
-    add("--schema", action="store_true", help="write the JSON Schema of an object; reads no report")
-    command.add_encoding(parser)
     settings = parser.parse_args(words, Settings())
     if settings.schema and (settings.report is not None or settings.input is not None):
         parser.error("--schema reads no report")

@@ -12,7 +12,7 @@ from typing import NoReturn, Optional, Union
 
 from pops_companions import command
 from pops_companions.chess.stipulation import Play
-from pops_companions.command import CommandError, Status
+from pops_companions.command import CommandError, Status, flag, option, word
 from pops_companions.input.given import GivenProblem, given_problems
 from pops_companions.input.given_source import refuse_other_text, warn_of_rest
 from pops_companions.many import sessions
@@ -56,29 +56,6 @@ WRITTEN_TO = ("CHROME_CONFIG_HOME", "XDG_CACHE_HOME", "XDG_RUNTIME_DIR")
 BROWSERS = ("chromium", "chromium-browser", "google-chrome")
 
 
-class Settings(argparse.Namespace):
-    """The words of the command line."""
-
-    input: str
-    report: Optional[str]
-    tries: str
-    tries_text: Optional[str]
-    refutations: int
-    to: str
-    language: str
-    figures: bool
-    heading: Optional[str]
-    per_row: Optional[int]
-    first_number: int
-    seconds: float
-    jobs: Optional[int]
-    apart: bool
-    output: Optional[str]
-    pops: Optional[str]
-    pops_tries: Optional[str]
-    encoding: str
-
-
 def _refutations(text: str) -> int:
     if not text.isascii() or not text.isdigit() or int(text) > 200:
         raise argparse.ArgumentTypeError(f"{text!r} is no number from 0 to 200")
@@ -92,44 +69,66 @@ def _per_row(text: str) -> int:
     return number
 
 
-def _add_forms(parser: argparse.ArgumentParser) -> None:
-    """Adds the options for what is written."""
-    add = parser.add_argument
-    add("--to", choices=FORMS, default="html", help="the form (html); pdf needs chromium")
-    add(
+class Settings(command.Settings):
+    """The words of the command line."""
+
+    input: str = word("INPUT", "an input of pops")
+    report: Optional[str] = option(
+        "--report", "REPORT", "the report of pops (default: pops is run)"
+    )
+    tries: str = option(
+        "--tries",
+        "WHICH",
+        "the tries that are shown: all, variations (those with a threat, or with a defence that"
+        " doesn't refute), none; another word is a TEXT of --tries-text (all)",
+        default=TriesShown.ALL.value,
+    )
+    tries_text: Optional[str] = option(
+        "--tries-text", "TEXT", "the text of pops-tries (default: pops-tries is run)"
+    )
+    refutations: int = option(
+        "--refutations",
+        "N",
+        "show tries with at most N refutations, if pops-tries is run (1)",
+        type=_refutations,
+        default=1,
+    )
+    to: str = option(
+        "--to", None, "the form (html); pdf needs chromium", choices=FORMS, default="html"
+    )
+    language: str = option(
         "--language",
+        None,
+        "the language of letters and words: English, German, French (en)",
         choices=tuple(LANGUAGES),
         default="en",
-        help="the language of letters and words: English, German, French (en)",
     )
-    add("--figures", action="store_true", help="figures of the men instead of letters")
-    add("--heading", metavar="TEXT", help="the sheet's heading (the name of INPUT)")
-    add(
+    figures: bool = flag("--figures", "figures of the men instead of letters")
+    heading: Optional[str] = option("--heading", "TEXT", "the sheet's heading (the name of INPUT)")
+    per_row: Optional[int] = option(
         "--per-row",
+        "N",
+        "N diagrams a row, all solutions after them, as for originals (html and pdf)",
         type=_per_row,
-        metavar="N",
-        help="N diagrams a row, all solutions after them, as for originals (html and pdf)",
     )
-    add(
+    first_number: int = option(
         "--first-number",
+        "N",
+        "the number of the first problem (1)",
         type=command.number_from_one,
         default=1,
-        metavar="N",
-        help="the number of the first problem (1)",
     )
-    add("--apart", action="store_true", help="show each twin by itself, as 1a, 1b")
-    add("-o", "--output", metavar="SHEET", help="the sheet (default: standard output)")
+    apart: bool = flag("--apart", "show each twin by itself, as 1a, 1b")
+    output: Optional[str] = command.output("the sheet", "SHEET")
+    seconds: float = command.SECONDS
+    jobs: Optional[int] = command.JOBS
+    pops: Optional[str] = option("--pops", "PROGRAM", LOOKED_FOR)
+    pops_tries: Optional[str] = option("--pops-tries", "PROGRAM", TRIES_LOOKED_FOR)
+    encoding: str = command.encoding()
 
 
-def _add_runs(parser: argparse.ArgumentParser) -> None:
-    """Adds the options for the programs that are run."""
-    add = parser.add_argument
-    command.add_limits(parser)
-    add("--pops", metavar="PROGRAM", help=LOOKED_FOR)
-    add("--pops-tries", metavar="PROGRAM", help=TRIES_LOOKED_FOR)
-
-
-def command_line() -> argparse.ArgumentParser:
+def arguments(words: list[str]) -> Settings:
+    """Reads the words of the command line."""
     parser = command.parser(
         NAME,
         "Prints the solutions of the problems of INPUT as magazines do: set play, tries and keys in\n"
@@ -137,38 +136,12 @@ def command_line() -> argparse.ArgumentParser:
         "above each diagram author, title, source and award, below it stipulation and number of\n"
         "men; at the end an index of authors. It runs pops and pops-tries, or takes their texts.\n"
         "Without pops-tries it shows the defences that pops shows, and no threats and tries.",
+        Settings,
         epilog="example: pops-sheet tourney.pop --language de -o sheet.html\n"
         "         pops-sheet tourney.pop --report tourney.report --to latex -o sheet.tex\n"
         "exit status: 0 if all is well, 1 if a problem is faulty or isn't solved to the end, 2 for a\n"
         "mistake in the command line, 3 if a text can't be read, isn't what it should be or can't be written.",
     )
-    add = parser.add_argument
-    add("input", metavar="INPUT", help="an input of pops")
-    add("--report", metavar="REPORT", help="the report of pops (default: pops is run)")
-    add(
-        "--tries",
-        metavar="WHICH",
-        default=TriesShown.ALL.value,
-        help="the tries that are shown: all, variations (those with a threat, or with a defence that"
-        " doesn't refute), none; another word is a TEXT of --tries-text (all)",
-    )
-    add("--tries-text", metavar="TEXT", help="the text of pops-tries (default: pops-tries is run)")
-    add(
-        "--refutations",
-        type=_refutations,
-        default=1,
-        metavar="N",
-        help="show tries with at most N refutations, if pops-tries is run (1)",
-    )
-    _add_forms(parser)
-    _add_runs(parser)
-    command.add_encoding(parser)
-    return parser
-
-
-def arguments(words: list[str]) -> Settings:
-    """Reads the words of the command line."""
-    parser = command_line()
     settings = parser.parse_args(words, Settings())
     if settings.tries not in (it.value for it in TriesShown):
         settings.tries_text, settings.tries = settings.tries, TriesShown.ALL.value
