@@ -16,7 +16,7 @@ from contextlib import contextmanager, suppress
 from enum import IntEnum
 from functools import lru_cache
 from itertools import takewhile
-from typing import Any, BinaryIO, ClassVar, NamedTuple, NoReturn, Optional, TextIO, Union, cast
+from typing import Any, BinaryIO, ClassVar, NamedTuple, NoReturn, Optional, TextIO, TypeVar, Union, cast
 
 from pops_companions import files, places
 
@@ -82,6 +82,9 @@ def _columns() -> int:
         return 80
 
 
+Words = TypeVar("Words", bound="Settings")
+
+
 class OneOf:
     """Options that exclude each other; one of them may be needed."""
 
@@ -112,32 +115,54 @@ def word(metavar: str, said: str, **more: Any) -> Any:
 
 
 class Settings(argparse.Namespace):
-    """The words of a command line. A companion's own class declares them in the order of the help."""
+    """The words of a command line. A companion's own class declares them in the order of the help.
 
-    declared: ClassVar[dict[str, Option]] = {}
+    It is made with what argparse takes of a parser: `prog`, `description`, `epilog`.
+    """
 
-    def __init_subclass__(cls) -> None:
+    _options: ClassVar[dict[str, Option]]
+    _texts: ClassVar[dict[str, str]]
+
+    def __init_subclass__(cls, **texts: str) -> None:
+        cls._texts = texts
+        cls._options = {name: it for name, it in vars(cls).items() if isinstance(it, Option)}
         # (argparse gives no default to an attribute that is there)
-        cls.declared = {name: it for name, it in vars(cls).items() if isinstance(it, Option)}
-        for name in cls.declared:
+        for name in cls._options:
             delattr(cls, name)
 
+    @classmethod
+    def read(cls: type[Words], words: list[str]) -> Words:
+        """Reads the words of a command line."""
+        return cls._parser().parse_args(words, cls())
 
-def parser(
-    name: str, description: str, settings: type[Settings] = Settings, **more: Any
-) -> argparse.ArgumentParser:
+    @classmethod
+    def refuse(cls, why: str) -> NoReturn:
+        """Ends the companion, because the words don't go together."""
+        cls._parser().error(why)
+
+    @classmethod
+    def _parser(cls) -> argparse.ArgumentParser:
+        made = argparse.ArgumentParser(formatter_class=_HelpFormatter, **cls._texts)  # type: ignore[arg-type]
+        made.add_argument("--version", action="version", version=f"%(prog)s {places.version()}")
+        groups: dict[Optional[OneOf], argparse._ActionsContainer] = {None: made}
+        for attribute, (names, said) in cls._options.items():
+            given = {"dest": attribute, **said} if names else dict(said)
+            one_of = given.pop("one_of", None)
+            if one_of not in groups:
+                groups[one_of] = made.add_mutually_exclusive_group(required=one_of.is_needed)
+            groups[one_of].add_argument(*(names or [attribute]), **given)
+        return made
+
+
+def parser(name: str, description: str, **more: object) -> argparse.ArgumentParser:
     """Returns a reader of a companion's arguments, which knows `--version`."""
     made = argparse.ArgumentParser(
-        prog=name, description=description, formatter_class=_HelpFormatter, **more
+        prog=name,
+        description=description,
+        formatter_class=_HelpFormatter,
+        **more,  # type: ignore[arg-type]
     )
     made.add_argument("--version", action="version", version=f"%(prog)s {places.version()}")
-    groups: dict[Optional[OneOf], argparse._ActionsContainer] = {None: made}
-    for attribute, (names, said) in settings.declared.items():
-        given = {"dest": attribute, **said} if names else dict(said)
-        one_of = given.pop("one_of", None)
-        if one_of not in groups:
-            groups[one_of] = made.add_mutually_exclusive_group(required=one_of.is_needed)
-        groups[one_of].add_argument(*(names or [attribute]), **given)
     return made
 
 

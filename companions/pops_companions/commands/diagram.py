@@ -34,7 +34,13 @@ def _kind(name: str, kind: str, said: str) -> Any:
     return flag(name, said, action="store_const", dest="kind", const=kind, one_of=_KINDS)
 
 
-class Settings(command.Settings):
+class Settings(
+    command.Settings,
+    prog=NAME,
+    description="Writes the diagrams of a report of pops, one file per problem, and prints their names.\n"
+    "It leaves out, and names, problems that are faulty or have no board in the report.",
+    epilog="example: pops-diagram games.report --svg -o diagrams/",
+):
     """The words of the command line."""
 
     report: Optional[str] = command.REPORT
@@ -111,16 +117,9 @@ def beginning_of_names(place: Optional[str], report: Optional[str]) -> str:
 
 def arguments(words: list[str]) -> Settings:
     """Reads the words of the command line."""
-    parser = command.parser(
-        NAME,
-        "Writes the diagrams of a report of pops, one file per problem, and prints their names.\n"
-        "It leaves out, and names, problems that are faulty or have no board in the report.",
-        Settings,
-        epilog="example: pops-diagram games.report --svg -o diagrams/",
-    )
-    settings = parser.parse_args(words, Settings())
+    settings = Settings.read(words)
     if not 1 <= settings.width <= 20_000:
-        parser.error("--width needs a number from 1 to 20000")
+        settings.refuse("--width needs a number from 1 to 20000")
     return settings
 
 

@@ -15,7 +15,14 @@ from pops_companions.show.page import Page, Words
 NAME = "pops-page"
 
 
-class Settings(command.Settings):
+class Settings(
+    command.Settings,
+    prog=NAME,
+    description="Turns a report of pops into an HTML page: for each problem a diagram with title and\n"
+    "author, next to it the solutions or the fault, in the report's own words.\n"
+    "Twins that pops-import made share one diagram.",
+    epilog="example: pops problems.pop | pops-page --input problems.pop -o problems.html",
+):
     """The words of the command line."""
 
     report: Optional[str] = command.REPORT
@@ -31,21 +38,8 @@ class Settings(command.Settings):
     encoding: str = command.encoding()
 
 
-def arguments(words: list[str]) -> Settings:
-    """Reads the words of the command line."""
-    parser = command.parser(
-        NAME,
-        "Turns a report of pops into an HTML page: for each problem a diagram with title and\n"
-        "author, next to it the solutions or the fault, in the report's own words.\n"
-        "Twins that pops-import made share one diagram.",
-        Settings,
-        epilog="example: pops problems.pop | pops-page --input problems.pop -o problems.html",
-    )
-    return parser.parse_args(words, Settings())
-
-
 def main(words: list[str]) -> Status:
-    settings = arguments(words)
+    settings = Settings.read(words)
     given = () if settings.input is None else read_given(NAME, settings.input)
     shown = Page(settings.heading, settings.encoding, given, settings.apart, Words())
     status = Status.GOOD

@@ -23,7 +23,14 @@ from pops_companions.show.as_json import Form, Json, event_object, item_object, 
 NAME = "pops2json"
 
 
-class Settings(command.Settings):
+class Settings(
+    command.Settings,
+    prog=NAME,
+    description="Writes a report of pops as JSON, one object per problem, each on its line.\n"
+    "docs/COMPANIONS.md explains the objects; --schema prints their JSON Schema.",
+    epilog="examples: pops problems.pop | pops2json -o problems.json\n"
+    "          pops long.pop | pops2json --events",
+):
     """The words of the command line."""
 
     report: Optional[str] = command.REPORT
@@ -105,19 +112,11 @@ def array(objects: Iterator[Json]) -> Iterator[str]:
 
 def arguments(words: list[str]) -> Settings:
     """Reads the words of the command line."""
-    parser = command.parser(
-        NAME,
-        "Writes a report of pops as JSON, one object per problem, each on its line.\n"
-        "docs/COMPANIONS.md explains the objects; --schema prints their JSON Schema.",
-        Settings,
-        epilog="examples: pops problems.pop | pops2json -o problems.json\n"
-        "          pops long.pop | pops2json --events",
-    )
-    settings = parser.parse_args(words, Settings())
+    settings = Settings.read(words)
     if settings.schema and (settings.report is not None or settings.input is not None):
-        parser.error("--schema reads no report")
+        settings.refuse("--schema reads no report")
     if settings.events and (settings.array or settings.input is not None):
-        parser.error("--events goes without --array and --input")
+        settings.refuse("--events goes without --array and --input")
     return settings
 
 

@@ -69,7 +69,19 @@ def _per_row(text: str) -> int:
     return number
 
 
-class Settings(command.Settings):
+class Settings(
+    command.Settings,
+    prog=NAME,
+    description="Prints the solutions of the problems of INPUT as magazines do: set play, tries and keys in\n"
+    "short notation, threats, refutations, defences with the same continuations together;\n"
+    "above each diagram author, title, source and award, below it stipulation and number of\n"
+    "men; at the end an index of authors. It runs pops and pops-tries, or takes their texts.\n"
+    "Without pops-tries it shows the defences that pops shows, and no threats and tries.",
+    epilog="example: pops-sheet tourney.pop --language de -o sheet.html\n"
+    "         pops-sheet tourney.pop --report tourney.report --to latex -o sheet.tex\n"
+    "exit status: 0 if all is well, 1 if a problem is faulty or isn't solved to the end, 2 for a\n"
+    "mistake in the command line, 3 if a text can't be read, isn't what it should be or can't be written.",
+):
     """The words of the command line."""
 
     input: str = word("INPUT", "an input of pops")
@@ -129,26 +141,13 @@ class Settings(command.Settings):
 
 def arguments(words: list[str]) -> Settings:
     """Reads the words of the command line."""
-    parser = command.parser(
-        NAME,
-        "Prints the solutions of the problems of INPUT as magazines do: set play, tries and keys in\n"
-        "short notation, threats, refutations, defences with the same continuations together;\n"
-        "above each diagram author, title, source and award, below it stipulation and number of\n"
-        "men; at the end an index of authors. It runs pops and pops-tries, or takes their texts.\n"
-        "Without pops-tries it shows the defences that pops shows, and no threats and tries.",
-        Settings,
-        epilog="example: pops-sheet tourney.pop --language de -o sheet.html\n"
-        "         pops-sheet tourney.pop --report tourney.report --to latex -o sheet.tex\n"
-        "exit status: 0 if all is well, 1 if a problem is faulty or isn't solved to the end, 2 for a\n"
-        "mistake in the command line, 3 if a text can't be read, isn't what it should be or can't be written.",
-    )
-    settings = parser.parse_args(words, Settings())
+    settings = Settings.read(words)
     if settings.tries not in (it.value for it in TriesShown):
         settings.tries_text, settings.tries = settings.tries, TriesShown.ALL.value
     if settings.figures and settings.to == "text":
-        parser.error("--figures goes with --to html, latex or pdf")
+        settings.refuse("--figures goes with --to html, latex or pdf")
     if settings.per_row and settings.to not in ("html", "pdf"):
-        parser.error("--per-row goes with --to html or pdf")
+        settings.refuse("--per-row goes with --to html or pdf")
     return settings
 
 
