@@ -154,18 +154,6 @@ class Settings(argparse.Namespace):
         return made
 
 
-def parser(name: str, description: str, **more: object) -> argparse.ArgumentParser:
-    """Returns a reader of a companion's arguments, which knows `--version`."""
-    made = argparse.ArgumentParser(
-        prog=name,
-        description=description,
-        formatter_class=_HelpFormatter,
-        **more,  # type: ignore[arg-type]
-    )
-    made.add_argument("--version", action="version", version=f"%(prog)s {places.version()}")
-    return made
-
-
 def run(name: str, command: Callable[[list[str]], int]) -> NoReturn:
     """Runs a companion on the program's arguments and ends with its status."""
     with _signals_as_interrupts(), _rare_collections(), _harmless_messages():
@@ -392,12 +380,6 @@ def output(what: str, metavar: str = "FILE") -> Any:
     return option("-o --output", metavar, f"{what} (default: standard output)")
 
 
-def add_limits(parser: argparse.ArgumentParser) -> None:
-    """Adds the options for the seconds of a problem, and for how many programs run at a time."""
-    for one in (SECONDS, JOBS):
-        parser.add_argument(*one.names, **one.more)
-
-
 def _is_of_lines(encoding: str) -> bool:
     """Returns whether every byte has a meaning or a substitute in an encoding, and ASCII its own."""
     ascii_bytes = bytes(range(128))
@@ -429,14 +411,6 @@ def encoding(fits: Callable[[str], bool] = _is_of_lines) -> Any:
 
     said = "the encoding of titles and authors (utf-8)"
     return option("--encoding", "NAME", said, type=fitting, default="utf-8")
-
-
-def add_encoding(
-    parser: argparse.ArgumentParser, fits: Callable[[str], bool] = _is_of_lines
-) -> None:
-    """Adds the option for the encoding of titles and authors, which has to fit."""
-    one = encoding(fits)
-    parser.add_argument(*one.names, **one.more)
 
 
 @contextmanager
