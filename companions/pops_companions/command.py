@@ -337,12 +337,20 @@ def _drop(stream: TextIO) -> None:
     os.dup2(os.open(os.devnull, os.O_WRONLY), stream.fileno())
 
 
-def number_from_one(text: str) -> int:
-    """Reads the number of an option."""
-    is_number = text.isascii() and text.isdigit() and len(text) <= _LONGEST_NUMBER
-    if not is_number or int(text) == 0:
-        raise argparse.ArgumentTypeError(f"{text!r} is no number from 1")
-    return int(text)
+def number_in(first: int, last: Optional[int] = None) -> Callable[[str], int]:
+    """Returns a reader of an option's number, from the first to the last one that it may be."""
+
+    def number(text: str) -> int:
+        is_number = text.isascii() and text.isdigit() and len(text) <= _LONGEST_NUMBER
+        if not is_number or int(text) < first or last is not None and int(text) > last:
+            most = "" if last is None else f" to {last}"
+            raise argparse.ArgumentTypeError(f"{text!r} is no number from {first}{most}")
+        return int(text)
+
+    return number
+
+
+number_from_one = number_in(1)
 
 
 def seconds(text: str) -> float:

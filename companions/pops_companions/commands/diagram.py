@@ -24,6 +24,7 @@ from pops_companions.show.twins import Group, groups
 NAME = "pops-diagram"
 # The pixels of a PNG's side where none are asked for.
 _WIDTH = 800
+_MOST_WIDTH = 20_000
 
 Drawing = Callable[[Group, Board], bytes]
 _KINDS = OneOf(is_needed=True)
@@ -57,7 +58,11 @@ class Settings(
         " (default: the current folder, and the report's name)",
     )
     width: int = option(
-        "--width", "PIXELS", f"the width of a PNG ({_WIDTH})", type=int, default=_WIDTH
+        "--width",
+        "PIXELS",
+        f"the width of a PNG ({_WIDTH})",
+        type=command.number_in(1, _MOST_WIDTH),
+        default=_WIDTH,
     )
     input: Optional[str] = option(
         "--input",
@@ -115,16 +120,8 @@ def beginning_of_names(place: Optional[str], report: Optional[str]) -> str:
     return os.path.join(place, name) if place.endswith("/") or os.path.isdir(place) else place
 
 
-def arguments(words: list[str]) -> Settings:
-    """Reads the words of the command line."""
-    settings = Settings.read(words)
-    if not 1 <= settings.width <= 20_000:
-        settings.refuse("--width needs a number from 1 to 20000")
-    return settings
-
-
 def main(words: list[str]) -> Status:
-    settings = arguments(words)
+    settings = Settings.read(words)
     drawing = drawing_of(settings)
     status = Status.GOOD
     beginning = beginning_of_names(settings.output, settings.report)

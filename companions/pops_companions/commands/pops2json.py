@@ -57,16 +57,6 @@ class Settings(
     def allowed(self) -> Allowed:
         return Allowed.UNFINISHED if self.unfinished else Allowed.FINISHED
 
-    @property
-    def text(self) -> Text:
-        return Text.TRIES if self.tries else Text.REPORT
-
-    @property
-    def form(self) -> Form:
-        if self.events:
-            return Form.EVENT
-        return Form.TRIES if self.tries else Form.ITEM
-
 
 def objects_of_items(settings: Settings) -> Iterator[Json]:
     """Yields the objects of the items, with what the input says of them."""
@@ -89,8 +79,8 @@ def opened(settings: Settings) -> AbstractContextManager[Iterator[Union[AnyItem,
 
 def objects_of_events(settings: Settings) -> Iterator[Json]:
     """Yields the objects of the events, as they come."""
-    source = opened_events(NAME, settings.report, settings.text, settings.allowed)
-    with source as events:
+    text = Text.TRIES if settings.tries else Text.REPORT
+    with opened_events(NAME, settings.report, text, settings.allowed) as events:
         for event in events:
             yield event_object(event, settings.encoding)
 
@@ -123,8 +113,9 @@ def arguments(words: list[str]) -> Settings:
 def main(words: list[str]) -> Status:
     settings = arguments(words)
     if settings.schema:
+        form = Form.EVENT if settings.events else Form.TRIES if settings.tries else Form.ITEM
         with command.written(settings.output) as target:
-            target.write((json.dumps(schema(settings.form), indent=1) + "\n").encode())
+            target.write((json.dumps(schema(form), indent=1) + "\n").encode())
         return Status.GOOD
     objects = objects_of_events(settings) if settings.events else objects_of_items(settings)
     with command.written(settings.output) as target:

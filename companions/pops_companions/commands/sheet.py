@@ -1,6 +1,5 @@
 """Prints the solutions of a collection as magazines do: short notation, threats, tries, authors."""
 
-import argparse
 import io
 import os
 import shutil
@@ -46,6 +45,8 @@ NAME = "pops-sheet"
 _HALF_MOVES_SHOWN = 3
 # More problems than these are counted and not named.
 _MOST_NUMBERS = 10
+# The most refutations of a try that pops-tries takes.
+_MOST_REFUTATIONS = 200
 # The most diagrams of a row.
 _MOST_IN_A_ROW = 8
 FORMS = ("html", "latex", "pdf", "text")
@@ -54,19 +55,6 @@ LONGEST_ROOM = 62
 # Below these Chromium puts crash reports, fontconfig its cache, and dconf its state.
 WRITTEN_TO = ("CHROME_CONFIG_HOME", "XDG_CACHE_HOME", "XDG_RUNTIME_DIR")
 BROWSERS = ("chromium", "chromium-browser", "google-chrome")
-
-
-def _refutations(text: str) -> int:
-    if not text.isascii() or not text.isdigit() or int(text) > 200:
-        raise argparse.ArgumentTypeError(f"{text!r} is no number from 0 to 200")
-    return int(text)
-
-
-def _per_row(text: str) -> int:
-    number = command.number_from_one(text)
-    if number > _MOST_IN_A_ROW:
-        raise argparse.ArgumentTypeError(f"{text!r} is no number from 1 to {_MOST_IN_A_ROW}")
-    return number
 
 
 class Settings(
@@ -102,7 +90,7 @@ class Settings(
         "--refutations",
         "N",
         "show tries with at most N refutations, if pops-tries is run (1)",
-        type=_refutations,
+        type=command.number_in(0, _MOST_REFUTATIONS),
         default=1,
     )
     to: str = option(
@@ -121,7 +109,7 @@ class Settings(
         "--per-row",
         "N",
         "N diagrams a row, all solutions after them, as for originals (html and pdf)",
-        type=_per_row,
+        type=command.number_in(1, _MOST_IN_A_ROW),
     )
     first_number: int = option(
         "--first-number",
@@ -347,30 +335,6 @@ def pdf_of(page: str) -> bytes:
         return target.read_bytes()
 
 
-def sheet(settings: Settings) -> Status:
-    """Writes the sheet."""
-    texts = Texts(settings)
-    command.try_out(settings.output)
-    given, boards = given_problems(texts.input), boards_of(texts.input)
-    items = texts.items()
-    warn_of_rest(NAME, settings.input, texts.input)
-    warn_of_names(NAME, settings.report or settings.input, items, settings.encoding)
-    refuse_other_report(items, given, boards)
-    tries = texts.tries(items) if any(map(is_battle, items)) else {}
-    refuse_others("text of tries", tries.values(), given, boards)
-    refuse_other_tries(items, tries)
-    items = with_missing(items, given)
-    shown = TriesShown(settings.tries)
-    made = Sheet(boards, tries, LANGUAGES[settings.language], settings.encoding, shown)
-    found = groups(iter(items), given, settings.encoding, False)
-    entries = list(made.entries(found, settings.first_number, settings.apart))
-    warn_of_short_lines(entries, tries)
-    written = written_as(settings, entries)
-    with command.written(settings.output) as target:
-        target.write(written)
-    return Status.GOOD if all(map(is_solved, items)) else Status.FAULTY
-
-
 def is_solved(item: AnyItem) -> bool:
     """Returns whether an item is solved to the end."""
     return isinstance(item, SoundItem) and item.unfinished is None
@@ -396,4 +360,24 @@ def written_as(settings: Settings, entries: list[Entry]) -> bytes:
 
 
 def main(words: list[str]) -> Status:
-    return sheet(arguments(words))
+    settings = arguments(words)
+    texts = Texts(settings)
+    command.try_out(settings.output)
+    given, boards = given_problems(texts.input), boards_of(texts.input)
+    items = texts.items()
+    warn_of_rest(NAME, settings.input, texts.input)
+    warn_of_names(NAME, settings.report or settings.input, items, settings.encoding)
+    refuse_other_report(items, given, boards)
+    tries = texts.tries(items) if any(map(is_battle, items)) else {}
+    refuse_others("text of tries", tries.values(), given, boards)
+    refuse_other_tries(items, tries)
+    items = with_missing(items, given)
+    shown = TriesShown(settings.tries)
+    made = Sheet(boards, tries, LANGUAGES[settings.language], settings.encoding, shown)
+    found = groups(iter(items), given, settings.encoding, False)
+    entries = list(made.entries(found, settings.first_number, settings.apart))
+    warn_of_short_lines(entries, tries)
+    written = written_as(settings, entries)
+    with command.written(settings.output) as target:
+        target.write(written)
+    return Status.GOOD if all(map(is_solved, items)) else Status.FAULTY
