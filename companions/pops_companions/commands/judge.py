@@ -14,10 +14,10 @@ from pops_companions.input.given_source import refuse_other_text
 from pops_companions.many.program import LOOKED_FOR, MissingError, find
 from pops_companions.many.tries_program import TRIES_LOOKED_FOR, find_tries
 from pops_companions.review.beside import Beside
+from pops_companions.report.source import opened_unfinished_report
 from pops_companions.review.judged_groups import JudgedGroup, judged_groups
 from pops_companions.review.judgement_text import MOST_LINES, Tally, as_text
 from pops_companions.review.judging_run import Runs, Work
-from pops_companions.review.reading import reviewed_unfinished_report
 from pops_companions.review.sheet import Evidence, sheet
 from pops_companions.sheet.entries import boards_of
 
@@ -100,7 +100,7 @@ def refuse_sheet(collection: str, sheet: str) -> None:
 
 def judgements_of(settings: Settings, work: Work, beside: Beside) -> list[JudgedGroup]:
     """Returns what the folder's reports say of the problems."""
-    with reviewed_unfinished_report(
+    with opened_unfinished_report(
         NAME, str(work.report), work.unfinished_problems, settings.encoding
     ) as items:
         judgements = beside.judgements(map(work.renamed, items))

@@ -7,7 +7,7 @@ import subprocess
 import sys
 from collections.abc import Iterable
 from pathlib import Path
-from typing import NoReturn, Optional, Union
+from typing import Optional, Union
 
 from pops_companions import command
 from pops_companions.chess.stipulation import Play
@@ -27,8 +27,8 @@ from pops_companions.many.tries_program import TRIES_LOOKED_FOR, TriesProgram, f
 from pops_companions.report.items import AnyItem, Board, FaultyItem, HeadlessItem, SoundItem
 from pops_companions.report.reader import ReportError, read_unfinished_report
 from pops_companions.report.source import warn_of_names
-from pops_companions.report.tries import TriesItem, is_of_item, read_tries
-from pops_companions.review.kept_tries import refuse_numbers_twice
+from pops_companions.report.tries import TriesItem, is_of_item
+from pops_companions.review.kept_tries import refuse_numbers_twice, tries_of_text
 from pops_companions.sheet.as_html import Layout, as_html
 from pops_companions.sheet.as_latex import as_latex
 from pops_companions.sheet.as_text import as_text
@@ -156,18 +156,16 @@ class Texts:
                 return self._solving.items(self._pops())
             return list(read_unfinished_report(io.BytesIO(command.read_all(named))))
         except ReportError as error:
-            self._refuse(named or "the output of pops", "no report of pops", error)
+            message = f"{named or 'the output of pops'} is no report of pops: {error}"
+            raise CommandError(Status.DEVICE, message) from None
 
     def tries(self, items: list[AnyItem]) -> dict[int, TriesItem]:
         """Returns the tries of these items; none without pops-tries."""
         named = self._settings.tries_text
-        try:
-            if named is None:
-                return self._solved_tries(items)
-            found = list(read_tries(io.BytesIO(command.read_all(named))))
-        except ReportError as error:
-            self._refuse(named or "the output of pops-tries", "no text of pops-tries", error)
-        refuse_numbers_twice(str(named), [item.number for item in found])
+        if named is None:
+            return self._solved_tries(items)
+        found = list(tries_of_text(named, [command.read_all(named)]))
+        refuse_numbers_twice(named, [item.number for item in found])
         sound = {item.number for item in items if isinstance(item, SoundItem)}
         for item in found:
             if isinstance(item, FaultyItem) and item.number in sound:
@@ -202,9 +200,6 @@ class Texts:
             return find_tries(self._settings.pops_tries, pops)
         except MissingError as error:
             raise CommandError(Status.DEVICE, str(error)) from None
-
-    def _refuse(self, name: str, why: str, error: ReportError) -> NoReturn:
-        raise CommandError(Status.DEVICE, f"{name} is {why}: {error}") from None
 
 
 def with_missing(items: list[AnyItem], given: list[GivenProblem]) -> list[AnyItem]:

@@ -9,7 +9,7 @@ from pops_companions import command
 from pops_companions.command import CommandError, Status, flag, option, word
 from pops_companions.input.given_source import read_given
 from pops_companions.input.writing import text_of_problems
-from pops_companions.report.source import NamedText, unfinished_beside
+from pops_companions.report.source import NamedText, opened_unfinished_report, unfinished_beside
 from pops_companions.review.beside import Beside
 from pops_companions.review.judged_groups import JudgedGroup
 from pops_companions.review.judged_report import Form, JudgedReport
@@ -24,7 +24,6 @@ from pops_companions.review.judgement_text import (
 )
 from pops_companions.review.posing import posed_problems
 from pops_companions.review.kept_tries import kept_tries
-from pops_companions.review.reading import refused_as_device, reviewed_unfinished_report
 
 NAME = "pops-test"
 
@@ -125,11 +124,11 @@ def opened_texts(
     named = NamedText(NAME, file or "standard input", encoding)
     report = JudgedReport(named, beside, form_of(settings), tally)
     if unfinished_beside(file, settings.unfinished) is None:
-        with refused_as_device(), command.opened(file) as source:
+        with command.opened(file) as source:
             groups, texts = partial(report.groups, source), partial(report.texts, source)
             yield texts_of(settings, tally, groups, texts)
         return
-    with reviewed_unfinished_report(NAME, file, settings.unfinished, encoding) as items:
+    with opened_unfinished_report(NAME, file, settings.unfinished, encoding) as items:
         groups = partial(report.groups_of, items)
         yield texts_of(settings, tally, groups, lambda: report.texts_of(groups()))
 

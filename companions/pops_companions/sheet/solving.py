@@ -18,7 +18,8 @@ from pops_companions.many.tries_program import TriesProgram
 from pops_companions.report import lines
 from pops_companions.report.items import AnyItem, FaultyItem
 from pops_companions.report.reader import read_unfinished_report
-from pops_companions.report.tries import TriesItem, read_tries
+from pops_companions.report.tries import TriesItem
+from pops_companions.review.kept_tries import tries_of_text
 
 
 class Solving:
@@ -85,7 +86,7 @@ class Solving:
 
 def _item_of(text: bytes, number: int) -> TriesItem:
     """Returns what pops-tries shows of a problem."""
-    item, *others = list(read_tries(io.BytesIO(text))) or [None]
+    item, *others = list(tries_of_text("the output of pops-tries", [text])) or [None]
     if not isinstance(item, TriesItem) or others:
         is_faulty = isinstance(item, FaultyItem)
         said = "calls it faulty, and pops sound" if is_faulty else "shows another problem"
