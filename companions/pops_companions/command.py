@@ -16,7 +16,7 @@ from contextlib import contextmanager, suppress
 from enum import IntEnum
 from functools import lru_cache
 from itertools import takewhile
-from typing import Any, BinaryIO, ClassVar, NamedTuple, NoReturn, Optional, TextIO, TypeVar, Union, cast
+from typing import Any, BinaryIO, ClassVar, NamedTuple, NoReturn, Optional, TextIO, TypeVar, Union
 
 from pops_companions import files, places
 
@@ -142,7 +142,10 @@ class Settings(argparse.Namespace):
 
     @classmethod
     def _parser(cls) -> argparse.ArgumentParser:
-        made = argparse.ArgumentParser(formatter_class=_HelpFormatter, **cls._texts)  # type: ignore[arg-type]
+        made = argparse.ArgumentParser(
+            formatter_class=_HelpFormatter,
+            **cls._texts,  # type: ignore[arg-type]
+        )
         made.add_argument("--version", action="version", version=f"%(prog)s {places.version()}")
         groups: dict[Optional[OneOf], argparse._ActionsContainer] = {None: made}
         for attribute, (names, said) in cls._options.items():
@@ -271,7 +274,7 @@ def _harmless_messages() -> Iterator[None]:
     """Lets messages hold no characters that a terminal obeys; a closed stream takes them too."""
     before = sys.stderr
     with open(os.devnull, "w") as nowhere:
-        sys.stderr = cast(TextIO, _Messages(nowhere if before is None else before))
+        sys.stderr = _Messages(before or nowhere)  # type: ignore[assignment]
         try:
             yield
         finally:

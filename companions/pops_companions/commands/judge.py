@@ -13,8 +13,8 @@ from pops_companions.files import is_device
 from pops_companions.input.given_source import refuse_other_text
 from pops_companions.many.program import LOOKED_FOR, MissingError, find
 from pops_companions.many.tries_program import TRIES_LOOKED_FOR, find_tries
-from pops_companions.review.beside import Beside
 from pops_companions.report.source import opened_unfinished_report
+from pops_companions.review.beside import Beside
 from pops_companions.review.judged_groups import JudgedGroup, judged_groups
 from pops_companions.review.judgement_text import MOST_LINES, Tally, as_text
 from pops_companions.review.judging_run import Runs, Work

@@ -86,12 +86,13 @@ class Solving:
 
 def _item_of(text: bytes, number: int) -> TriesItem:
     """Returns what pops-tries shows of a problem."""
-    item, *others = list(tries_of_text("the output of pops-tries", [text])) or [None]
-    if not isinstance(item, TriesItem) or others:
-        is_faulty = isinstance(item, FaultyItem)
+    found = list(tries_of_text("the output of pops-tries", [text]))
+    one = found[0] if len(found) == 1 else None
+    if not isinstance(one, TriesItem):
+        is_faulty = isinstance(one, FaultyItem)
         said = "calls it faulty, and pops sound" if is_faulty else "shows another problem"
         raise CommandError(Status.DEVICE, f"problem {number}: pops-tries {said}")
-    return replace(item, number=number)
+    return replace(one, number=number)
 
 
 def _marked(result: Result) -> bytes:
