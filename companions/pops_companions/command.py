@@ -16,7 +16,7 @@ from contextlib import contextmanager, suppress
 from enum import IntEnum
 from functools import lru_cache
 from itertools import takewhile
-from typing import Any, BinaryIO, NoReturn, Optional, TextIO, Union, cast
+from typing import Any, BinaryIO, ClassVar, NamedTuple, NoReturn, Optional, TextIO, TypeVar, Union
 
 from pops_companions import files, places
 
@@ -82,16 +82,79 @@ def _columns() -> int:
         return 80
 
 
-def parser(name: str, description: str, **more: object) -> argparse.ArgumentParser:
-    """Returns a reader of a companion's arguments, which knows `--version`."""
-    made = argparse.ArgumentParser(
-        prog=name,
-        description=description,
-        formatter_class=_HelpFormatter,
-        **more,  # type: ignore[arg-type]
-    )
-    made.add_argument("--version", action="version", version=f"%(prog)s {places.version()}")
-    return made
+Words = TypeVar("Words", bound="Settings")
+
+
+class OneOf:
+    """Options that exclude each other; one of them may be needed."""
+
+    def __init__(self, is_needed: bool = False):
+        self.is_needed = is_needed
+
+
+class Option(NamedTuple):
+    """An option of a command line, or a word without a name, and what argparse takes of it."""
+
+    names: tuple[str, ...]
+    more: dict[str, Any]
+
+
+def option(names: str, metavar: Optional[str], said: str, **more: Any) -> Any:
+    """Declares an attribute of `Settings`: an option with a value."""
+    return Option(tuple(names.split()), {"metavar": metavar, "help": said, **more})
+
+
+def flag(name: str, said: str, **more: Any) -> Any:
+    """Declares an attribute of `Settings`: whether an option is given."""
+    return Option((name,), {"help": said, "action": "store_true", **more})
+
+
+def word(metavar: str, said: str, **more: Any) -> Any:
+    """Declares an attribute of `Settings`: a word that has its place."""
+    return Option((), {"metavar": metavar, "help": said, **more})
+
+
+class Settings(argparse.Namespace):
+    """The words of a command line. A companion's own class declares them in the order of the help.
+
+    It is made with what argparse takes of a parser: `prog`, `description`, `epilog`.
+    """
+
+    _options: ClassVar[dict[str, Option]]
+    _texts: ClassVar[dict[str, str]]
+
+    def __init_subclass__(cls, **texts: str) -> None:
+        cls._texts = texts
+        cls._options = {name: it for name, it in vars(cls).items() if isinstance(it, Option)}
+        # (argparse gives no default to an attribute that is there)
+        for name in cls._options:
+            delattr(cls, name)
+
+    @classmethod
+    def read(cls: type[Words], words: list[str]) -> Words:
+        """Reads the words of a command line."""
+        return cls._parser().parse_args(words, cls())
+
+    @classmethod
+    def refuse(cls, why: str) -> NoReturn:
+        """Ends the companion, because the words don't go together."""
+        cls._parser().error(why)
+
+    @classmethod
+    def _parser(cls) -> argparse.ArgumentParser:
+        made = argparse.ArgumentParser(
+            formatter_class=_HelpFormatter,
+            **cls._texts,  # type: ignore[arg-type]
+        )
+        made.add_argument("--version", action="version", version=f"%(prog)s {places.version()}")
+        groups: dict[Optional[OneOf], argparse._ActionsContainer] = {None: made}
+        for attribute, (names, said) in cls._options.items():
+            given = {"dest": attribute, **said} if names else dict(said)
+            one_of = given.pop("one_of", None)
+            if one_of not in groups:
+                groups[one_of] = made.add_mutually_exclusive_group(required=one_of.is_needed)
+            groups[one_of].add_argument(*(names or [attribute]), **given)
+        return made
 
 
 def run(name: str, command: Callable[[list[str]], int]) -> NoReturn:
@@ -211,7 +274,7 @@ def _harmless_messages() -> Iterator[None]:
     """Lets messages hold no characters that a terminal obeys; a closed stream takes them too."""
     before = sys.stderr
     with open(os.devnull, "w") as nowhere:
-        sys.stderr = cast(TextIO, _Messages(nowhere if before is None else before))
+        sys.stderr = _Messages(before or nowhere)  # type: ignore[assignment]
         try:
             yield
         finally:
@@ -277,12 +340,20 @@ def _drop(stream: TextIO) -> None:
     os.dup2(os.open(os.devnull, os.O_WRONLY), stream.fileno())
 
 
-def number_from_one(text: str) -> int:
-    """Reads the number of an option."""
-    is_number = text.isascii() and text.isdigit() and len(text) <= _LONGEST_NUMBER
-    if not is_number or int(text) == 0:
-        raise argparse.ArgumentTypeError(f"{text!r} is no number from 1")
-    return int(text)
+def number_in(first: int, last: Optional[int] = None) -> Callable[[str], int]:
+    """Returns a reader of an option's number, from the first to the last one that it may be."""
+
+    def number(text: str) -> int:
+        is_number = text.isascii() and text.isdigit() and len(text) <= _LONGEST_NUMBER
+        if not is_number or int(text) < first or last is not None and int(text) > last:
+            most = "" if last is None else f" to {last}"
+            raise argparse.ArgumentTypeError(f"{text!r} is no number from {first}{most}")
+        return int(text)
+
+    return number
+
+
+number_from_one = number_in(1)
 
 
 def seconds(text: str) -> float:
@@ -304,16 +375,20 @@ def jobs(text: str) -> int:
     return number
 
 
-def add_limits(parser: argparse.ArgumentParser) -> None:
-    """Adds the options for the seconds of a problem, and for how many programs run at a time."""
-    parser.add_argument(
-        "--seconds",
-        type=seconds,
-        default=_SECONDS,
-        metavar="N",
-        help=f"stop a problem after N seconds ({_SECONDS:g}); 0 is no limit",
-    )
-    parser.add_argument("-j", "--jobs", type=jobs, metavar="N", help="runs at a time")
+_SECONDS_SAID = f"stop a problem after N seconds ({_SECONDS:g}); 0 is no limit"
+SECONDS: Any = option("--seconds", "N", _SECONDS_SAID, type=seconds, default=_SECONDS)
+JOBS: Any = option("-j --jobs", "N", "runs at a time", type=jobs)
+REPORT: Any = word("REPORT", "the report (default: standard input)", nargs="?")
+UNFINISHED: Any = option(
+    "--unfinished",
+    "FILE",
+    "what pops-many kept of problems that it stopped (REPORT.unfinished, if it is there)",
+)
+
+
+def output(what: str, metavar: str = "FILE") -> Any:
+    """Declares the option for what is written."""
+    return option("-o --output", metavar, f"{what} (default: standard output)")
 
 
 def _is_of_lines(encoding: str) -> bool:
@@ -337,23 +412,16 @@ def is_of_text(encoding: str) -> bool:
         return False
 
 
-def add_encoding(
-    parser: argparse.ArgumentParser, fits: Callable[[str], bool] = _is_of_lines
-) -> None:
-    """Adds the option for the encoding of titles and authors, which has to fit."""
+def encoding(fits: Callable[[str], bool] = _is_of_lines) -> Any:
+    """Declares the option for the encoding of titles and authors, which has to fit."""
 
-    def encoding(name: str) -> str:
+    def fitting(name: str) -> str:
         if not fits(name):
             raise argparse.ArgumentTypeError(f"no encoding of lines of text is called {name}")
         return name
 
-    parser.add_argument(
-        "--encoding",
-        type=encoding,
-        default="utf-8",
-        metavar="NAME",
-        help="the encoding of titles and authors (utf-8)",
-    )
+    said = "the encoding of titles and authors (utf-8)"
+    return option("--encoding", "NAME", said, type=fitting, default="utf-8")
 
 
 @contextmanager

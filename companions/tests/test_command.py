@@ -7,9 +7,15 @@ import subprocess
 import sys
 import tempfile
 import unittest
+from collections.abc import Callable
+from contextlib import redirect_stderr
+from functools import partial
+from io import StringIO
 from pathlib import Path
+from typing import Optional
 from unittest import mock
 
+from pops_companions.command import OneOf, Settings, flag, option, word
 from tests import run_here, support
 
 # More than a pipe holds, as a page, as JSON and as problems.
@@ -112,6 +118,49 @@ class Beginnings(unittest.TestCase):
                     sys.modules.pop("pops_companions.start", None)
                     runpy.run_path(str(script))
                 self.assertEqual(end.exception.code, 4)
+
+
+_ENDS = OneOf(is_needed=True)
+
+
+class Journey(Settings, prog="journey", description="Goes to a place.", epilog="example: journey Rome --by sea"):
+    """A made command line."""
+
+    place: str = word("PLACE", "where to")
+    by: Optional[str] = option("-b --by", "WAY", "how")
+    stops: list[str] = option("--stop", "PLACE", "on the way", action="append", default=[])
+    returns: bool = flag("--return", "come back", one_of=_ENDS)
+    stays: bool = flag("--stay", "don't", one_of=_ENDS)
+
+
+class CommandLines(unittest.TestCase):
+    def test_words_become_attributes(self) -> None:
+        read = Journey.read(["Rome", "-b", "sea", "--stop", "Bari", "--stay"])
+        self.assertEqual((read.place, read.by, read.stops, read.returns, read.stays), ("Rome", "sea", ["Bari"], False, True))
+        read = Journey.read(["--return", "Rome"])
+        self.assertEqual((read.by, read.stops, read.returns, read.stays), (None, [], True, False))
+
+    def test_what_is_refused(self) -> None:
+        for words, said in (
+            (["Rome", "--stay", "--return"], "argument --return: not allowed with argument --stay"),
+            (["Rome"], "one of the arguments --return --stay is required"),
+            (["--stay"], "the following arguments are required: PLACE"),
+        ):
+            self.assertEqual(self.refused(partial(Journey.read, words)), f"journey: error: {said}")
+        self.assertEqual(self.refused(partial(Journey.refuse, "no way")), "journey: error: no way")
+
+    def refused(self, reads: Callable[[], object]) -> str:
+        """The last line that is said where a command line ends the program with status 2."""
+        with redirect_stderr(StringIO()) as said, self.assertRaises(SystemExit) as end:
+            reads()
+        self.assertEqual(end.exception.code, 2)
+        return said.getvalue().splitlines()[-1]
+
+    def test_a_second_command_line_begins_from_the_defaults(self) -> None:
+        arguments = support.loaded("fen2pop").arguments
+        for number in ("1", "2"):
+            read = arguments(["-s", "#1", "--max-solutions", number, "k7/8/8/8/8/8/8/7K"])
+            self.assertEqual(read.options, [f"MaxSolutions {number}"])
 
 
 class Streams(unittest.TestCase):

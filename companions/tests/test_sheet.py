@@ -967,6 +967,13 @@ class Command(Case):
         self.assertEqual((outcome.status, outcome.output), (3, b""))
         self.assertIn("pops-tries ended with status 4", outcome.error)
 
+    def test_a_program_of_tries_that_shows_two_problems(self) -> None:
+        one = "problem 1\nh#1\nno tries in help play\n\n"
+        self.write_program("plain-tries", f"#!/bin/sh\ncat > /dev/null\nprintf '{one}{one}'\n")
+        outcome = self.made(OF_THE_MANUAL, "--pops-tries", self.tries)
+        self.assertEqual((outcome.status, outcome.output), (3, b""))
+        self.assertIn("problem 1: pops-tries shows another problem", outcome.error)
+
     def test_a_problem_that_only_the_text_of_tries_calls_faulty(self) -> None:
         fault = "problem 1\nline 3: fault 8: bad stipulation\n\n"
         self.write_program("plain-tries", f"#!/bin/sh\ncat > /dev/null\nprintf '{fault}'\nexit 1\n")

@@ -1,13 +1,12 @@
 """Says how two reports of pops differ, problem by problem."""
 
-import argparse
 from collections.abc import Iterator
 from contextlib import AbstractContextManager
 from functools import partial
 from typing import Optional
 
 from pops_companions import command
-from pops_companions.command import Status
+from pops_companions.command import Status, word
 from pops_companions.many.progress import Progress
 from pops_companions.review.differences import Counts, Pair, differences_of, heading
 from pops_companions.review.kept_report import KeptReport, kept_report
@@ -17,34 +16,29 @@ from pops_companions.review.naming import counted
 NAME = "pops-compare"
 
 
-class Settings(argparse.Namespace):
+class Settings(
+    command.Settings,
+    prog=NAME,
+    description="Says how two reports of pops differ, problem by problem: solutions, variations,\n"
+    "totals and faults gained or lost, problems changed, gained or lost.\n"
+    "It recognizes problems even if their numbers changed.",
+    epilog="example: pops-compare before.report after.report\n"
+    "exit status: 0 if nothing differs, 1 if something does, 2 for a mistake in the\n"
+    "command line, 3 if a report can't be read.",
+):
     """The words of the command line."""
 
-    old: str
-    new: str
-    output: Optional[str]
-    encoding: str
+    old: str = word("OLD", "a report; - is standard input")
+    new: str = word("NEW", "a later report; - is standard input")
+    output: Optional[str] = command.output("the text")
+    encoding: str = command.encoding()
 
 
 def arguments(words: list[str]) -> Settings:
-    parser = command.parser(
-        NAME,
-        "Says how two reports of pops differ, problem by problem: solutions, variations,\n"
-        "totals and faults gained or lost, problems changed, gained or lost.\n"
-        "It recognizes problems even if their numbers changed.",
-        epilog="example: pops-compare before.report after.report\n"
-        "exit status: 0 if nothing differs, 1 if something does, 2 for a mistake in the\n"
-        "command line, 3 if a report can't be read.",
-    )
-    parser.add_argument("old", metavar="OLD", help="a report; - is standard input")
-    parser.add_argument("new", metavar="NEW", help="a later report; - is standard input")
-    parser.add_argument(
-        "-o", "--output", metavar="FILE", help="the text (default: standard output)"
-    )
-    command.add_encoding(parser)
-    settings = parser.parse_args(words, Settings())
+    """Reads the words of the command line."""
+    settings = Settings.read(words)
     if settings.old == settings.new == "-":
-        parser.error("only one of the reports can be standard input")
+        settings.refuse("only one of the reports can be standard input")
     return settings
 
 

@@ -1,6 +1,5 @@
 """Writes the diagrams of a report of pops, a file for each problem."""
 
-import argparse
 import os
 import shutil
 import sys
@@ -8,10 +7,10 @@ from collections import deque
 from collections.abc import Callable, Iterator
 from functools import partial
 from pathlib import Path
-from typing import Optional
+from typing import Any, Optional
 
 from pops_companions import command
-from pops_companions.command import CommandError, Status
+from pops_companions.command import CommandError, OneOf, Status, flag, option
 from pops_companions.files import Links
 from pops_companions.input.given_source import read_given
 from pops_companions.many.child_process import outcome_of
@@ -25,20 +24,53 @@ from pops_companions.show.twins import Group, groups
 NAME = "pops-diagram"
 # The pixels of a PNG's side where none are asked for.
 _WIDTH = 800
+_MOST_WIDTH = 20_000
 
 Drawing = Callable[[Group, Board], bytes]
+_KINDS = OneOf(is_needed=True)
 
 
-class Settings(argparse.Namespace):
+def _kind(name: str, kind: str, said: str) -> Any:
+    """Declares an option for a kind of files."""
+    return flag(name, said, action="store_const", dest="kind", const=kind, one_of=_KINDS)
+
+
+class Settings(
+    command.Settings,
+    prog=NAME,
+    description="Writes the diagrams of a report of pops, one file per problem, and prints their names.\n"
+    "It leaves out, and names, problems that are faulty or have no board in the report.",
+    epilog="example: pops-diagram games.report --svg -o diagrams/",
+):
     """The words of the command line."""
 
-    report: Optional[str]
+    report: Optional[str] = command.REPORT
     kind: str
-    output: Optional[str]
-    width: int
-    input: Optional[str]
-    apart: bool
-    encoding: str
+    svg: None = _kind("--svg", "svg", "drawings as pops-page shows them")
+    png: None = _kind("--png", "png", "the same as pictures; needs rsvg-convert of librsvg")
+    latex: None = _kind(
+        "--latex", "tex", "environments of the LaTeX package diagram, with the solutions"
+    )
+    output: Optional[str] = option(
+        "-o --output",
+        "PLACE",
+        "a folder for the files (end a new one in /), or what their names begin with"
+        " (default: the current folder, and the report's name)",
+    )
+    width: int = option(
+        "--width",
+        "PIXELS",
+        f"the width of a PNG ({_WIDTH})",
+        type=command.number_in(1, _MOST_WIDTH),
+        default=_WIDTH,
+    )
+    input: Optional[str] = option(
+        "--input",
+        "INPUT",
+        "the input of the report, for --latex: its Origin lines, and what changes in twins",
+    )
+    apart: bool = flag("--apart", "with --latex: each twin in a file of its own")
+    encoding: str = command.encoding()
 
 
 def svg(group: Group, board: Board, encoding: str) -> bytes:
@@ -88,64 +120,8 @@ def beginning_of_names(place: Optional[str], report: Optional[str]) -> str:
     return os.path.join(place, name) if place.endswith("/") or os.path.isdir(place) else place
 
 
-def command_line() -> argparse.ArgumentParser:
-    parser = command.parser(
-        NAME,
-        "Writes the diagrams of a report of pops, one file per problem, and prints their names.\n"
-        "It leaves out, and names, problems that are faulty or have no board in the report.",
-        epilog="example: pops-diagram games.report --svg -o diagrams/",
-    )
-    parser.add_argument(
-        "report",
-        nargs="?",
-        metavar="REPORT",
-        help="the report (default: standard input)",
-    )
-    _add_kinds(parser)
-    parser.add_argument(
-        "-o",
-        "--output",
-        metavar="PLACE",
-        help="a folder for the files (end a new one in /), or what their names begin with"
-        " (default: the current folder, and the report's name)",
-    )
-    parser.add_argument(
-        "--width", type=int, default=_WIDTH, metavar="PIXELS", help=f"the width of a PNG ({_WIDTH})"
-    )
-    parser.add_argument(
-        "--input",
-        metavar="INPUT",
-        help="the input of the report, for --latex: its Origin lines, and what changes in twins",
-    )
-    parser.add_argument(
-        "--apart", action="store_true", help="with --latex: each twin in a file of its own"
-    )
-    command.add_encoding(parser)
-    return parser
-
-
-def _add_kinds(parser: argparse.ArgumentParser) -> None:
-    """Adds the options for the kind of diagrams, of which one has to be given."""
-    kinds = parser.add_mutually_exclusive_group(required=True)
-    for option, kind, said in (
-        ("--svg", "svg", "drawings as pops-page shows them"),
-        ("--png", "png", "the same as pictures; needs rsvg-convert of librsvg"),
-        ("--latex", "tex", "environments of the LaTeX package diagram, with the solutions"),
-    ):
-        kinds.add_argument(option, dest="kind", action="store_const", const=kind, help=said)
-
-
-def arguments(words: list[str]) -> Settings:
-    """Reads the words of the command line."""
-    parser = command_line()
-    settings = parser.parse_args(words, Settings())
-    if not 1 <= settings.width <= 20_000:
-        parser.error("--width needs a number from 1 to 20000")
-    return settings
-
-
 def main(words: list[str]) -> Status:
-    settings = arguments(words)
+    settings = Settings.read(words)
     drawing = drawing_of(settings)
     status = Status.GOOD
     beginning = beginning_of_names(settings.output, settings.report)

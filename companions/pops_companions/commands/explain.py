@@ -1,6 +1,5 @@
 """Explains the faults of problems: the word, what is wrong with it, and the likely cause."""
 
-import argparse
 import io
 import json
 import os
@@ -12,7 +11,7 @@ from typing import BinaryIO, NamedTuple, Optional
 from pops.engine import Engine
 from pops.run import Ending, Limits
 from pops_companions import command
-from pops_companions.command import STANDARD_INPUT, CommandError, Status
+from pops_companions.command import STANDARD_INPUT, CommandError, Status, flag, option, word
 from pops_companions.files import Links
 from pops_companions.explain.diagnostics import diagnostic_object, diagnostics
 from pops_companions.explain.explaining import ExplainedFault, OtherText, explain
@@ -34,66 +33,50 @@ _MOST_FOR_A_TEXT = 1 << 16
 _MOST_FOR_A_BYTE = 16
 
 
-class Settings(argparse.Namespace):
+class Settings(
+    command.Settings,
+    prog=NAME,
+    description="Explains each fault of a text of problems: the line with the word marked, what is wrong\n"
+    "and the likely cause. Without REPORT it asks pops --check for the faults.\n"
+    "Without INPUT, or for -, it reads standard input.",
+    epilog="examples: pops-explain problems.pop\n"
+    "          pops-explain --all --fix problems.pop\n"
+    "          pops-explain --json problems.pop\n"
+    "          pops problems.pop | pops-explain problems.pop -\n"
+    "exit status: 0 if no problem is faulty, 1 if one is.",
+):
     """The words of the command line."""
 
-    input: str
-    report: Optional[str]
-    output: Optional[str]
-    all: bool
-    fix: bool
-    force: bool
-    json: bool
-    pops: Optional[str]
-
-
-def refuse_wrong(parser: argparse.ArgumentParser, settings: Settings) -> None:
-    """Refuses words that don't go together."""
-    if settings.input == settings.report == STANDARD_INPUT:
-        parser.error("INPUT and REPORT can't both be standard input")
-    if settings.fix and settings.input == STANDARD_INPUT:
-        parser.error("--fix needs an INPUT: the corrected text stands next to it")
-    if settings.force and not settings.fix:
-        parser.error("--force goes with --fix")
+    input: str = word("INPUT", "the text of problems", nargs="?", default=STANDARD_INPUT)
+    report: Optional[str] = word("REPORT", "the report of pops on it", nargs="?")
+    output: Optional[str] = command.output("the explanations")
+    all: bool = flag(
+        "--all",
+        "explain all faults of each problem, not only the first, which is the one pops reports",
+    )
+    fix: bool = flag(
+        "--fix",
+        "write NAME.fixed.pop next to INPUT NAME.pop, with what the explanations say to write;"
+        " check it: the causes are guesses",
+    )
+    force: bool = flag("--force", "with --fix: overwrite another NAME.fixed.pop")
+    json: bool = flag(
+        "--json",
+        "write a JSON object for each fault and for what may not be meant: file, line, column,"
+        " length, problem, fault, cause, fix",
+    )
+    pops: Optional[str] = option("--pops", "PROGRAM", LOOKED_FOR)
 
 
 def arguments(words: list[str]) -> Settings:
-    parser = command.parser(
-        NAME,
-        "Explains each fault of a text of problems: the line with the word marked, what is wrong\n"
-        "and the likely cause. Without REPORT it asks pops --check for the faults.\n"
-        "Without INPUT, or for -, it reads standard input.",
-        epilog="examples: pops-explain problems.pop\n"
-        "          pops-explain --all --fix problems.pop\n"
-        "          pops-explain --json problems.pop\n"
-        "          pops problems.pop | pops-explain problems.pop -\n"
-        "exit status: 0 if no problem is faulty, 1 if one is.",
-    )
-    add = parser.add_argument
-    add("input", nargs="?", metavar="INPUT", default=STANDARD_INPUT, help="the text of problems")
-    add("report", nargs="?", metavar="REPORT", help="the report of pops on it")
-    add("-o", "--output", metavar="FILE", help="the explanations (default: standard output)")
-    add(
-        "--all",
-        action="store_true",
-        help="explain all faults of each problem, not only the first, which is the one pops reports",
-    )
-    add(
-        "--fix",
-        action="store_true",
-        help="write NAME.fixed.pop next to INPUT NAME.pop, with what the explanations say to write;"
-        " check it: the causes are guesses",
-    )
-    add("--force", action="store_true", help="with --fix: overwrite another NAME.fixed.pop")
-    add(
-        "--json",
-        action="store_true",
-        help="write a JSON object for each fault and for what may not be meant: file, line, column,"
-        " length, problem, fault, cause, fix",
-    )
-    add("--pops", metavar="PROGRAM", help=LOOKED_FOR)
-    settings = parser.parse_args(words, Settings())
-    refuse_wrong(parser, settings)
+    """Reads the words of the command line."""
+    settings = Settings.read(words)
+    if settings.input == settings.report == STANDARD_INPUT:
+        settings.refuse("INPUT and REPORT can't both be standard input")
+    if settings.fix and settings.input == STANDARD_INPUT:
+        settings.refuse("--fix needs an INPUT: the corrected text stands next to it")
+    if settings.force and not settings.fix:
+        settings.refuse("--force goes with --fix")
     return settings
 
 

@@ -1,11 +1,10 @@
 """Writes problems in the forms of other programs: an input of Popeye, or a collection in YAML."""
 
-import argparse
 import sys
 from typing import Optional
 
 from pops_companions import command
-from pops_companions.command import CommandError, Status
+from pops_companions.command import CommandError, Status, flag, option, word
 from pops_companions.export.problems import Exported, joined, read_problems
 from pops_companions.export.yaml_form import yaml_of
 from pops_companions.import_.words import Unreadable
@@ -17,39 +16,33 @@ from pops_companions.show.titles import other_lines, text_of
 NAME = "pops-export"
 
 
-class Settings(argparse.Namespace):
+class Settings(
+    command.Settings,
+    prog=NAME,
+    description="Writes the problems of FILE as an input of Popeye, or in YAML as the Olive editor and\n"
+    "YACPDB have it. Twins that pops-import made of one problem are one again. pops-import\n"
+    "makes the same problems from what is written.",
+    epilog="example: pops-export --to yaml mine.pop --report mine.report -o mine.olv",
+):
     """The words of the command line."""
 
-    file: Optional[str]
-    to: str
-    report: Optional[str]
-    apart: bool
-    output: Optional[str]
-    encoding: str
+    file: Optional[str] = word("FILE", "an input of pops (default: standard input)", nargs="?")
+    to: str = option("--to", None, "the form", required=True, choices=("popeye", "yaml"))
+    report: Optional[str] = option(
+        "--report",
+        "REPORT",
+        "with --to yaml: the report of pops on FILE, whose solutions are written too",
+    )
+    apart: bool = flag("--apart", "leave each twin a problem of its own")
+    output: Optional[str] = command.output("what is written", "OUTPUT")
+    encoding: str = command.encoding()
 
 
 def arguments(words: list[str]) -> Settings:
-    parser = command.parser(
-        NAME,
-        "Writes the problems of FILE as an input of Popeye, or in YAML as the Olive editor and\n"
-        "YACPDB have it. Twins that pops-import made of one problem are one again. pops-import\n"
-        "makes the same problems from what is written.",
-        epilog="example: pops-export --to yaml mine.pop --report mine.report -o mine.olv",
-    )
-    add = parser.add_argument
-    add("file", nargs="?", metavar="FILE", help="an input of pops (default: standard input)")
-    add("--to", required=True, choices=("popeye", "yaml"), help="the form")
-    add(
-        "--report",
-        metavar="REPORT",
-        help="with --to yaml: the report of pops on FILE, whose solutions are written too",
-    )
-    add("--apart", action="store_true", help="leave each twin a problem of its own")
-    add("-o", "--output", metavar="OUTPUT", help="what is written (default: standard output)")
-    command.add_encoding(parser)
-    settings = parser.parse_args(words, Settings())
+    """Reads the words of the command line."""
+    settings = Settings.read(words)
     if settings.report is not None and settings.to != "yaml":
-        parser.error("--report goes with --to yaml: an input of Popeye has no solutions")
+        settings.refuse("--report goes with --to yaml: an input of Popeye has no solutions")
     return settings
 
 

@@ -1,18 +1,17 @@
 """Turns positions in FEN or EPD, and games in PGN that begin with a position, into input of pops."""
 
-import argparse
 import io
 import os
 import re
 import sys
 from collections.abc import Iterator, Mapping
 from dataclasses import replace
-from typing import NamedTuple, Optional
+from typing import Any, NamedTuple, Optional
 
 from pops_companions import command
 from pops_companions.chess.fen import FenError, Position, read_position
 from pops_companions.chess.stipulation import Condition, Stipulation
-from pops_companions.command import Status
+from pops_companions.command import Status, flag, option, word
 from pops_companions.input.writing import Wishes, is_turned, problem_of_position, text_of_problems
 
 NAME = "fen2pop"
@@ -20,21 +19,6 @@ NAME = "fen2pop"
 _TURNED_NAMED = 3
 # A tag of a game in PGN, as `[White "Morphy"]` (PGN Standard, section 8.1).
 _TAG = re.compile(r'\[\s*(\w+)\s+"((?:[^"\\]|\\.)*)"\s*\]')
-
-
-class Settings(argparse.Namespace):
-    """The words of the command line."""
-
-    position: list[str]
-    file: list[str]
-    stipulation: Stipulation
-    title: str
-    author: str
-    condition: Optional[str]
-    options: list[str]
-    max_solutions: Optional[int]
-    keep_colours: bool
-    output: Optional[str]
 
 
 class Given(NamedTuple):
@@ -139,84 +123,74 @@ def mate_of(position: Position) -> Optional[Stipulation]:
     return Stipulation.of_text(f"#{int(moves)}") if re.fullmatch("[0-9]{1,3}", moves) else None
 
 
-def _add_options(parser: argparse.ArgumentParser) -> None:
-    """Adds the options that stand in each problem."""
-    add = parser.add_argument
-    add(
-        "--set-play",
-        action="append_const",
-        dest="options",
-        const="SetPlay",
-        default=[],
-        help="show set play too",
-    )
-    add(
-        "--variation",
-        action="append_const",
-        dest="options",
-        const="Variation",
-        help="show defences and continuations",
-    )
-    add(
-        "--no-board",
-        action="append_const",
-        dest="options",
-        const="NoBoard",
-        help="print no board",
-    )
-    add(
-        "--max-solutions",
-        metavar="N",
-        type=command.number_from_one,
-        help="no more than N solutions in a phase",
-    )
+def _line(name: str, text: str, said: str, **more: Any) -> Any:
+    """Declares an option for a line of each problem."""
+    return flag(name, said, action="append_const", dest="options", const=text, **more)
 
 
-def command_line() -> argparse.ArgumentParser:
-    parser = command.parser(
-        NAME,
-        "Turns positions in FEN or EPD into input for pops, one problem from each.\n\n"
-        "Castling rights become the option NoCastling, an en passant square the option EnPassant.\n"
-        "If the side to move isn't the one that starts, as Black in #2, the colours are reversed;\n"
-        "a Remark and standard error say so.",
-        epilog="example: fen2pop --stipulation '#2' 'kbK5/pp6/1P6/8/8/8/8/R7 w - -' > morphy.pop",
-    )
-    add = parser.add_argument
-    add(
-        "position",
+class Settings(
+    command.Settings,
+    prog=NAME,
+    description="Turns positions in FEN or EPD into input for pops, one problem from each.\n\n"
+    "Castling rights become the option NoCastling, an en passant square the option EnPassant.\n"
+    "If the side to move isn't the one that starts, as Black in #2, the colours are reversed;\n"
+    "a Remark and standard error say so.",
+    epilog="example: fen2pop --stipulation '#2' 'kbK5/pp6/1P6/8/8/8/8/R7 w - -' > morphy.pop",
+):
+    """The words of the command line."""
+
+    position: list[str] = word(
+        "FEN",
+        "a position; without FEN and --file, each line of standard input is one",
         nargs="*",
-        metavar="FEN",
-        help="a position; without FEN and --file, each line of standard input is one",
     )
-    add("-f", "--file", action="append", default=[], help="a file of positions, one per line, or of games in PGN with tags FEN")
-    add(
-        "-s",
-        "--stipulation",
+    file: list[str] = option(
+        "-f --file",
+        None,
+        "a file of positions, one per line, or of games in PGN with tags FEN",
+        action="append",
+        default=[],
+    )
+    stipulation: Optional[Stipulation] = option(
+        "-s --stipulation",
+        None,
+        "such as '#2', 's#3', 'h#2.5', '=1'; not needed if each EPD has a dm",
         type=stipulation,
-        help="such as '#2', 's#3', 'h#2.5', '=1'; not needed if each EPD has a dm",
     )
-    add("-t", "--title", default="", help="the title of each problem; an EPD's id and a game's players take precedence")
-    add("-a", "--author", default="", help="the author of each problem")
-    add(
-        "-c",
-        "--condition",
+    title: str = option(
+        "-t --title",
+        None,
+        "the title of each problem; an EPD's id and a game's players take precedence",
+        default="",
+    )
+    author: str = option("-a --author", None, "the author of each problem", default="")
+    condition: Optional[str] = option(
+        "-c --condition",
+        None,
+        "the condition of each problem",
         choices=[condition.value for condition in Condition],
-        help="the condition of each problem",
     )
-    _add_options(parser)
-    add("--keep-colours", action="store_true", help="ignore the side to move")
-    add("-o", "--output", metavar="FILE", help="the input of pops (default: standard output)")
-    return parser
+    options: list[str]
+    set_play: None = _line("--set-play", "SetPlay", "show set play too", default=[])
+    variation: None = _line("--variation", "Variation", "show defences and continuations")
+    no_board: None = _line("--no-board", "NoBoard", "print no board")
+    max_solutions: Optional[int] = option(
+        "--max-solutions",
+        "N",
+        "no more than N solutions in a phase",
+        type=command.number_from_one,
+    )
+    keep_colours: bool = flag("--keep-colours", "ignore the side to move")
+    output: Optional[str] = command.output("the input of pops")
 
 
 def arguments(words: list[str]) -> Settings:
     """Reads the words of the command line."""
-    parser = command_line()
-    settings = parser.parse_args(words, Settings())
+    settings = Settings.read(words)
     if settings.position and os.path.isfile(settings.position[0]):
-        parser.error(f"{settings.position[0]} is a file: name it after --file")
+        settings.refuse(f"{settings.position[0]} is a file: name it after --file")
     if settings.max_solutions is not None:
-        settings.options.append(f"MaxSolutions {settings.max_solutions}")
+        settings.options = [*settings.options, f"MaxSolutions {settings.max_solutions}"]
     return settings
 
 

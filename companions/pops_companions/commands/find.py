@@ -1,16 +1,14 @@
 """Keeps a collection of problems in one file, and finds anticipations, authors, men in it."""
 
-import argparse
 import os
 import re
 import sqlite3
 import sys
-from collections.abc import Callable
 from pathlib import Path
 from typing import Optional
 
 from pops_companions import command
-from pops_companions.command import CommandError, Status
+from pops_companions.command import CommandError, Status, option, word
 from pops_companions.find.boards import board_of
 from pops_companions.find.collection import Collection, CollectionError, Found, Wanted
 from pops_companions.find.dates import whole_date
@@ -28,108 +26,87 @@ _WORDS = (
 _DATE = re.compile("[0-9]{4}(?:-[0-9]{2}){0,2}")
 
 
-class Settings(argparse.Namespace):
+# What is done with a collection, but to look for words and men in it.
+_ACTIONS = command.OneOf()
+
+
+class Settings(
+    command.Settings,
+    prog=NAME,
+    description="Keeps problems in COLLECTION, an SQLite file, and finds them again: by words and men, by\n"
+    "key and mates, and by positions that are the same or one man apart, mirrored, turned,\n"
+    "shifted or with colours reversed. FILEs are inputs of pops, Popeye inputs, collections in\n"
+    "YAML and reports with boards.",
+    epilog="examples: pops-find mine.db --add *.pop\n"
+    "          pops-find mine.db --near new.pop -o anticipations.html\n"
+    "          pops-find mine.db --author Loyd --stipulation '#3' --men 'White Kh1'\n"
+    "exit status: 0 if something was found or added, 1 if nothing was, or a problem is left\n"
+    "out, 2 for a mistake in the command line, 3 if a file can't be read or written.",
+):
     """The words of the command line."""
 
-    collection: str
-    add: Optional[list[str]]
-    near: Optional[str]
-    play: Optional[str]
-    report: Optional[str]
-    author: Optional[str]
-    title: Optional[str]
-    source: Optional[str]
-    date: Optional[str]
-    keyword: Optional[str]
-    fragment: Optional[str]
-    stipulation: Optional[str]
-    condition: Optional[str]
-    men: Optional[str]
-    count: Optional[str]
-    most: int
-    output: Optional[str]
-    encoding: str
-    wanted: Wanted
-
-
-def command_line() -> argparse.ArgumentParser:
-    parser = command.parser(
-        NAME,
-        "Keeps problems in COLLECTION, an SQLite file, and finds them again: by words and men, by\n"
-        "key and mates, and by positions that are the same or one man apart, mirrored, turned,\n"
-        "shifted or with colours reversed. FILEs are inputs of pops, Popeye inputs, collections in\n"
-        "YAML and reports with boards.",
-        epilog="examples: pops-find mine.db --add *.pop\n"
-        "          pops-find mine.db --near new.pop -o anticipations.html\n"
-        "          pops-find mine.db --author Loyd --stipulation '#3' --men 'White Kh1'\n"
-        "exit status: 0 if something was found or added, 1 if nothing was, or a problem is left\n"
-        "out, 2 for a mistake in the command line, 3 if a file can't be read or written.",
-    )
-    add = parser.add_argument
-    add("collection", metavar="COLLECTION", help="the file; --add makes it if it doesn't exist")
-    _add_actions(parser)
-    add("--report", metavar="REPORT", help="with --add of one FILE: its report, for key and mates")
-    add("--author", metavar="TEXT", help="find this in authors")
-    add("--title", metavar="TEXT", help="find this in titles")
-    _add_sources(add)
-    add("--stipulation", metavar="S", help="find this stipulation, such as h#2")
-    add("--condition", metavar="C", help="find this condition")
-    _add_men(add)
-    add(
-        "--most",
-        type=command.number_from_one,
-        default=MOST,
-        metavar="N",
-        help=f"show at most N problems for each question ({MOST})",
-    )
-    add("-o", "--output", metavar="PAGE", help="an HTML page with the diagrams of what was found")
-    command.add_encoding(parser)
-    return parser
-
-
-def _add_actions(parser: argparse.ArgumentParser) -> None:
-    """Adds the options of which one alone may be given."""
-    add = parser.add_mutually_exclusive_group().add_argument
-    add(
+    collection: str = word("COLLECTION", "the file; --add makes it if it doesn't exist")
+    add: Optional[list[str]] = option(
         "--add",
+        "FILE",
+        "add the problems of FILEs; a FILE added again replaces its older problems",
         nargs="+",
-        metavar="FILE",
-        help="add the problems of FILEs; a FILE added again replaces its older problems",
+        one_of=_ACTIONS,
     )
-    add("--near", metavar="FILE", help="find positions near each one in FILE")
-    add("--play", metavar="REPORT", help="find problems with the keys and mates of a report")
-
-
-def _add_men(add: Callable[..., object]) -> None:
-    """Adds the options for men."""
-    add("--men", metavar="MEN", help="find positions with these men, as 'White Kg6 Black Pa7'")
-    add("--count", metavar="W+B", help="find positions by numbers of men, such as 3+4")
-    add(
+    near: Optional[str] = option(
+        "--near", "FILE", "find positions near each one in FILE", one_of=_ACTIONS
+    )
+    play: Optional[str] = option(
+        "--play", "REPORT", "find problems with the keys and mates of a report", one_of=_ACTIONS
+    )
+    report: Optional[str] = option(
+        "--report", "REPORT", "with --add of one FILE: its report, for key and mates"
+    )
+    author: Optional[str] = option("--author", "TEXT", "find this in authors")
+    title: Optional[str] = option("--title", "TEXT", "find this in titles")
+    source: Optional[str] = option("--source", "TEXT", "find this in origins")
+    date: Optional[str] = option(
+        "--date", "D[..D]", "find this date, or from one to another: 1977-08, 1950..1959"
+    )
+    keyword: Optional[str] = option(
+        "--keyword", "TEXT", "find this in keywords, also `ideal mates`, `echo`"
+    )
+    stipulation: Optional[str] = option("--stipulation", "S", "find this stipulation, such as h#2")
+    condition: Optional[str] = option("--condition", "C", "find this condition")
+    men: Optional[str] = option(
+        "--men", "MEN", "find positions with these men, as 'White Kg6 Black Pa7'"
+    )
+    count: Optional[str] = option("--count", "W+B", "find positions by numbers of men, such as 3+4")
+    fragment: Optional[str] = option(
         "--fragment",
-        metavar="MEN",
-        help="find positions with these men anywhere: as they are, shifted, mirrored, turned or with"
+        "MEN",
+        "find positions with these men anywhere: as they are, shifted, mirrored, turned or with"
         " colours reversed",
     )
-
-
-def _add_sources(add: Callable[..., object]) -> None:
-    """Adds the options for where and when a problem was published, and for what it is about."""
-    add("--source", metavar="TEXT", help="find this in origins")
-    add("--date", metavar="D[..D]", help="find this date, or from one to another: 1977-08, 1950..1959")
-    add("--keyword", metavar="TEXT", help="find this in keywords, also `ideal mates`, `echo`")
+    most: int = option(
+        "--most",
+        "N",
+        f"show at most N problems for each question ({MOST})",
+        type=command.number_from_one,
+        default=MOST,
+    )
+    output: Optional[str] = option(
+        "-o --output", "PAGE", "an HTML page with the diagrams of what was found"
+    )
+    encoding: str = command.encoding()
+    wanted: Wanted
 
 
 def arguments(words: list[str]) -> Settings:
     """Reads the words of the command line."""
-    parser = command_line()
-    settings = parser.parse_args(words, Settings())
+    settings = Settings.read(words)
     is_search = any(getattr(settings, name) is not None for name in _WORDS)
     actions_given = [settings.add, settings.near, settings.play]
     if is_search == any(it is not None for it in actions_given):
-        parser.error("give one of --add, --near and --play, or what to look for, as --author TEXT")
+        settings.refuse("give one of --add, --near and --play, or what to look for, as --author TEXT")
     if settings.report is not None and (settings.add is None or len(settings.add) != 1):
-        parser.error("--report goes with --add of one FILE")
-    settings.wanted = wanted_of(parser, settings)
+        settings.refuse("--report goes with --add of one FILE")
+    settings.wanted = wanted_of(settings)
     return settings
 
 
@@ -138,18 +115,18 @@ def typed(text: Optional[str]) -> str:
     return os.fsencode(text or "").decode("utf-8", "replace")
 
 
-def wanted_of(parser: argparse.ArgumentParser, settings: Settings) -> Wanted:
+def wanted_of(settings: Settings) -> Wanted:
     """Returns what found problems have to have."""
     try:
         men = dict(men_in(settings.men or ""))
         fragment = dict(men_in(settings.fragment or ""))
     except ValueError:
-        parser.error("--men and --fragment need a colour and men, as 'White Kg6 Ra1 Black Kg8'")
+        settings.refuse("--men and --fragment need a colour and men, as 'White Kg6 Ra1 Black Kg8'")
     counts: Optional[tuple[int, int]] = None
     if settings.count is not None:
         parts = re.fullmatch(r"([0-9]{1,2})\+([0-9]{1,2})", settings.count)
         if parts is None:
-            parser.error("--count needs two numbers, as 3+4")
+            settings.refuse("--count needs two numbers, as 3+4")
         counts = int(parts[1]), int(parts[2])
     return Wanted(
         typed(settings.author),
@@ -160,20 +137,18 @@ def wanted_of(parser: argparse.ArgumentParser, settings: Settings) -> Wanted:
         counts,
         typed(settings.source),
         typed(settings.keyword),
-        dates_of(parser, settings.date),
+        dates_of(settings),
         board_of(fragment) if fragment else "",
     )
 
 
-def dates_of(
-    parser: argparse.ArgumentParser, text: Optional[str]
-) -> Optional[tuple[str, str]]:
+def dates_of(settings: Settings) -> Optional[tuple[str, str]]:
     """Returns the first and the last date."""
-    if text is None:
+    if settings.date is None:
         return None
-    dates = [one if _DATE.fullmatch(one) else whole_date(one) for one in text.split("..")]
+    dates = [one if _DATE.fullmatch(one) else whole_date(one) for one in settings.date.split("..")]
     if not all(dates) or len(dates) > 2:
-        parser.error("--date needs a date, as 1977, 1977-08 or 8/1977, or two, as 1950..1959")
+        settings.refuse("--date needs a date, as 1977, 1977-08 or 8/1977, or two, as 1950..1959")
     return dates[0], dates[-1]
 
 

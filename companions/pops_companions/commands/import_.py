@@ -1,6 +1,5 @@
 """Turns inputs of Popeye and collections in YAML into input of pops."""
 
-import argparse
 import json
 import sys
 from collections.abc import Iterable, Sequence
@@ -8,7 +7,7 @@ from enum import Enum
 from typing import NamedTuple, Optional
 
 from pops_companions import command
-from pops_companions.command import Status
+from pops_companions.command import Status, flag, option, word
 from pops_companions.import_.draft import Draft
 from pops_companions.import_.posing import posed
 from pops_companions.import_.sources import read_drafts
@@ -20,14 +19,32 @@ from pops_companions.tables import row_of
 NAME = "pops-import"
 
 
-class Settings(argparse.Namespace):
+class Settings(
+    command.Settings,
+    prog=NAME,
+    description="Turns Popeye inputs in English, German or French, and collections in YAML as the Olive\n"
+    "editor and YACPDB have them, into input for pops.\n\n"
+    "Each twin becomes a problem of its own, and so does the other side of Duplex, with\n"
+    "colours reversed. What pops has no word for is reported on standard error, problem by\n"
+    "problem. A problem that can't be posed without it is left out, with exit status 1.",
+    epilog="example: pops-import mine.inp olive.olv -o mine.pop",
+):
     """The words of the command line."""
 
-    files: list[str]
-    output: Optional[str]
-    index: Optional[str]
-    json: bool
-    encoding: str
+    files: list[str] = word("FILE", "a collection (default: standard input)", nargs="*")
+    output: Optional[str] = command.output("the input of pops")
+    index: Optional[str] = option(
+        "--index",
+        "TABLE",
+        "a table of which entry of which FILE became which problem: number of the problem,"
+        " file, number of the entry, its line, twin, id in the database",
+    )
+    json: bool = flag(
+        "--json",
+        "messages on standard error as JSON objects, a line each: file, line, column, length,"
+        " problem, twin, kind, reason",
+    )
+    encoding: str = command.encoding(command.is_of_text)
 
     @property
     def inputs(self) -> Sequence[Optional[str]]:
@@ -192,40 +209,8 @@ def say(text: str) -> None:
     print(f"{NAME}: {text}", file=sys.stderr)
 
 
-def command_line() -> argparse.ArgumentParser:
-    parser = command.parser(
-        NAME,
-        "Turns Popeye inputs in English, German or French, and collections in YAML as the Olive\n"
-        "editor and YACPDB have them, into input for pops.\n\n"
-        "Each twin becomes a problem of its own, and so does the other side of Duplex, with\n"
-        "colours reversed. What pops has no word for is reported on standard error, problem by\n"
-        "problem. A problem that can't be posed without it is left out, with exit status 1.",
-        epilog="example: pops-import mine.inp olive.olv -o mine.pop",
-    )
-    parser.add_argument(
-        "files", nargs="*", metavar="FILE", help="a collection (default: standard input)"
-    )
-    parser.add_argument(
-        "-o", "--output", metavar="FILE", help="the input of pops (default: standard output)"
-    )
-    parser.add_argument(
-        "--index",
-        metavar="TABLE",
-        help="a table of which entry of which FILE became which problem: number of the problem,"
-        " file, number of the entry, its line, twin, id in the database",
-    )
-    parser.add_argument(
-        "--json",
-        action="store_true",
-        help="messages on standard error as JSON objects, a line each: file, line, column, length,"
-        " problem, twin, kind, reason",
-    )
-    command.add_encoding(parser, command.is_of_text)
-    return parser
-
-
 def main(words: list[str]) -> Status:
-    settings = command_line().parse_args(words, Settings())
+    settings = Settings.read(words)
     if settings.index is not None:
         command.refuse_shared([], [settings.output, settings.index])
     made = Import(settings.json)

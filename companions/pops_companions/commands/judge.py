@@ -1,6 +1,5 @@
 """Judges a collection: solves it, looks for short solutions, and writes one sheet of verdicts."""
 
-import argparse
 import errno
 import os
 import sys
@@ -8,78 +7,58 @@ from pathlib import Path
 from typing import Optional
 
 from pops_companions import command
-from pops_companions.command import STANDARD_INPUT, CommandError, Status
+from pops_companions.command import STANDARD_INPUT, CommandError, Status, flag, option, word
 from pops_companions.input.given import given_problems
 from pops_companions.files import is_device
 from pops_companions.input.given_source import refuse_other_text
 from pops_companions.many.program import LOOKED_FOR, MissingError, find
 from pops_companions.many.tries_program import TRIES_LOOKED_FOR, find_tries
+from pops_companions.report.source import opened_unfinished_report
 from pops_companions.review.beside import Beside
 from pops_companions.review.judged_groups import JudgedGroup, judged_groups
 from pops_companions.review.judgement_text import MOST_LINES, Tally, as_text
 from pops_companions.review.judging_run import Runs, Work
-from pops_companions.review.reading import reviewed_unfinished_report
 from pops_companions.review.sheet import Evidence, sheet
 from pops_companions.sheet.entries import boards_of
 
 NAME = "pops-judge"
 
 
-class Settings(argparse.Namespace):
+class Settings(
+    command.Settings,
+    prog=NAME,
+    description="Solves the problems of COLLECTION, looks for short solutions, and writes one sheet with a\n"
+    "verdict for each problem and the evidence: cooks, short solutions, duals, set play.\n"
+    "docs/SOUNDNESS.md explains the verdicts. Where pops-tries is installed, the sheet also has\n"
+    "tries and threats.",
+    epilog="example: pops-judge tourney.pop -o sheet.html\n"
+    "exit status: 0 if all problems are sound, 1 if one isn't or is undecided, 2 for a\n"
+    "mistake in the command line, 3 if a text can't be read or written, 6 if the run was\n"
+    "stopped or pops-tries failed. What is done is then kept in SHEET.work, as it is while\n"
+    "problems need more than --seconds; --resume goes on from there.",
+):
     """The words of the command line."""
 
-    collection: str
-    output: str
-    heading: Optional[str]
-    seconds: float
-    jobs: Optional[int]
-    solutions: int
-    resume: bool
-    apart: bool
-    all: bool
-    pops: Optional[str]
-    pops_tries: Optional[str]
-    encoding: str
-
-
-def command_line() -> argparse.ArgumentParser:
-    parser = command.parser(
-        NAME,
-        "Solves the problems of COLLECTION, looks for short solutions, and writes one sheet with a\n"
-        "verdict for each problem and the evidence: cooks, short solutions, duals, set play.\n"
-        "docs/SOUNDNESS.md explains the verdicts. Where pops-tries is installed, the sheet also has\n"
-        "tries and threats.",
-        epilog="example: pops-judge tourney.pop -o sheet.html\n"
-        "exit status: 0 if all problems are sound, 1 if one isn't or is undecided, 2 for a\n"
-        "mistake in the command line, 3 if a text can't be read or written, 6 if the run was\n"
-        "stopped or pops-tries failed. What is done is then kept in SHEET.work, as it is while\n"
-        "problems need more than --seconds; --resume goes on from there.",
+    collection: str = word("COLLECTION", "an input of pops")
+    output: str = option("-o --output", "SHEET", "the sheet, an HTML page", required=True)
+    heading: Optional[str] = option(
+        "--heading", "TEXT", "the sheet's heading (the name of the collection)"
     )
-    add = parser.add_argument
-    add("collection", metavar="COLLECTION", help="an input of pops")
-    add("-o", "--output", metavar="SHEET", required=True, help="the sheet, an HTML page")
-    add("--heading", metavar="TEXT", help="the sheet's heading (the name of the collection)")
-    command.add_limits(parser)
-    add(
+    seconds: float = command.SECONDS
+    jobs: Optional[int] = command.JOBS
+    solutions: int = option(
         "--solutions",
+        "N",
+        "the wanted number for help problems without `Remark solutions N` (1)",
         type=command.number_from_one,
         default=1,
-        metavar="N",
-        help="the wanted number for help problems without `Remark solutions N` (1)",
     )
-    add("--resume", action="store_true", help="go on where a run stopped")
-    add("--apart", action="store_true", help="judge each twin by itself")
-    add("--all", action="store_true", help=f"show all moves of a finding, not only {MOST_LINES}")
-    add("--pops", metavar="PROGRAM", help=LOOKED_FOR)
-    add("--pops-tries", metavar="PROGRAM", help=TRIES_LOOKED_FOR)
-    command.add_encoding(parser)
-    return parser
-
-
-def arguments(words: list[str]) -> Settings:
-    """Reads the words of the command line."""
-    parser = command_line()
-    return parser.parse_args(words, Settings())
+    resume: bool = flag("--resume", "go on where a run stopped")
+    apart: bool = flag("--apart", "judge each twin by itself")
+    all: bool = flag("--all", f"show all moves of a finding, not only {MOST_LINES}")
+    pops: Optional[str] = option("--pops", "PROGRAM", LOOKED_FOR)
+    pops_tries: Optional[str] = option("--pops-tries", "PROGRAM", TRIES_LOOKED_FOR)
+    encoding: str = command.encoding()
 
 
 def runs_of(settings: Settings) -> Runs:
@@ -121,7 +100,7 @@ def refuse_sheet(collection: str, sheet: str) -> None:
 
 def judgements_of(settings: Settings, work: Work, beside: Beside) -> list[JudgedGroup]:
     """Returns what the folder's reports say of the problems."""
-    with reviewed_unfinished_report(
+    with opened_unfinished_report(
         NAME, str(work.report), work.unfinished_problems, settings.encoding
     ) as items:
         judgements = beside.judgements(map(work.renamed, items))
@@ -178,7 +157,7 @@ def say_unfinished(work: Work) -> None:
 
 
 def main(words: list[str]) -> Status:
-    settings = arguments(words)
+    settings = Settings.read(words)
     try:
         return judge(settings)
     except (KeyboardInterrupt, OSError) as error:

@@ -6,6 +6,7 @@ from collections.abc import Sequence
 from typing import Optional
 
 from pops_companions import command
+from pops_companions.command import flag, option, word
 from pops_companions.files import is_device
 from pops_companions.many.program import LOOKED_FOR
 
@@ -18,126 +19,6 @@ SPLIT_SOON_AFTER = 0.02
 DEPTHS = range(1, 5)
 DEPTH_HERE = 2
 DEPTH_THERE = 1
-
-
-class Settings(argparse.Namespace):
-    """The words of the command line."""
-
-    files: list[str]
-    output: Optional[str]
-    each: bool
-    index: Optional[str]
-    jobs: Optional[int]
-    check: bool
-    no_board: bool
-    seconds: Optional[float]
-    unfinished: Optional[str]
-    split: bool
-    split_after: Optional[float]
-    split_depth: Optional[int]
-    pops_part: Optional[str]
-    resume: bool
-    journal: Optional[str]
-    pops: Optional[str]
-    sshlogin: list[str]
-    ssh: Optional[str]
-    remote_pops: str
-    remote_pops_part: Optional[str]
-
-    @property
-    def inputs(self) -> Sequence[Optional[str]]:
-        """The inputs; None is standard input."""
-        inputs: list[Optional[str]] = [*self.files]
-        return inputs or [None]
-
-    @property
-    def report(self) -> Optional[str]:
-        """The report, where it is a file: beside it are the journal and what is unfinished."""
-        if self.output is None or self.each:
-            return self.output
-        return None if is_device(self.output) else self.output
-
-
-def _add_reports(parser: argparse.ArgumentParser) -> None:
-    """Adds the options for inputs and reports."""
-    add = parser.add_argument
-    add("files", nargs="*", metavar="FILE", help="an input of pops")
-    add(
-        "-o",
-        "--output",
-        metavar="REPORT",
-        help="the report, or the folder of --each (default: standard output)",
-    )
-    add(
-        "--each",
-        action="store_true",
-        help="one report per FILE, NAME.report for NAME.pop, next to it or in the folder of -o",
-    )
-    add("--index", metavar="TABLE", help="a table of the report's items, with the FILE of each")
-    add(
-        "-j",
-        "--jobs",
-        type=command.jobs,
-        metavar="N",
-        help="runs at a time on each machine (default: one per processor)",
-    )
-    add("--check", action="store_true", help="as in pops: test the problems without solving them")
-    add("--no-board", action="store_true", help="as in pops: print no board")
-
-
-def _add_limits(parser: argparse.ArgumentParser) -> None:
-    """Adds the options for a limit of time."""
-    add = parser.add_argument
-    add(
-        "--seconds",
-        type=command.seconds,
-        metavar="N",
-        help="stop a problem after N seconds, and go on with the others",
-    )
-    add(
-        "--unfinished",
-        metavar="FILE",
-        help="where to put what was found of stopped problems (default: REPORT.unfinished)",
-    )
-
-
-def _add_split(parser: argparse.ArgumentParser) -> None:
-    """Adds the options for problems in parts."""
-    add = parser.add_argument
-    add(
-        "--split",
-        action="store_true",
-        help="cut problems that take long into parts, for all processors and machines",
-    )
-    add(
-        "--split-after",
-        type=command.seconds,
-        metavar="N",
-        help=f"how many seconds a problem has before it is cut ({SPLIT_AFTER:g}, or"
-        f" {SPLIT_SOON_AFTER:g} if there are fewer problems than processors)",
-    )
-    add(
-        "--split-depth",
-        type=int,
-        choices=DEPTHS,
-        metavar="D",
-        help=f"cut help play by its first D half-moves, 1 to 4 ({DEPTH_HERE}, with --sshlogin"
-        f" {DEPTH_THERE}): a greater D makes more and smaller parts",
-    )
-    add(
-        "--pops-part",
-        metavar="PROGRAM",
-        help="the program pops-part (default: $POPS_PART, the one next to pops or built with it,"
-        " the one on the PATH)",
-    )
-
-
-def _add_journal(parser: argparse.ArgumentParser) -> None:
-    """Adds the options for a run that goes on, and the program."""
-    add = parser.add_argument
-    add("--resume", action="store_true", help="go on where a run stopped; needs its journal")
-    add("--journal", metavar="FILE", help="the journal (default: REPORT.journal)")
-    add("--pops", metavar="PROGRAM", help=LOOKED_FOR)
 
 
 def _machines(text: str) -> str:
@@ -158,81 +39,144 @@ def _shell_command(text: str) -> str:
     return text
 
 
-def _add_machines(parser: argparse.ArgumentParser) -> None:
-    """Adds the options for other machines."""
-    add = parser.add_argument
-    add(
+class Settings(
+    command.Settings,
+    prog=NAME,
+    description="Solves the problems of each FILE, or of standard input, on all processors.\n"
+    "It writes what pops writes for each FILE in turn, and ends with the same status.",
+    epilog="example: pops-many collection.pop -o collection.report\n"
+    "exit status: that of pops; 6 if the run was stopped, or some problems took longer than\n"
+    "--seconds or couldn't be run. A journal then keeps the finished ones, and --resume goes\n"
+    "on from there.",
+):
+    """The words of the command line."""
+
+    files: list[str] = word("FILE", "an input of pops", nargs="*")
+    output: Optional[str] = option(
+        "-o --output",
+        "REPORT",
+        "the report, or the folder of --each (default: standard output)",
+    )
+    each: bool = flag(
+        "--each",
+        "one report per FILE, NAME.report for NAME.pop, next to it or in the folder of -o",
+    )
+    index: Optional[str] = option(
+        "--index", "TABLE", "a table of the report's items, with the FILE of each"
+    )
+    jobs: Optional[int] = option(
+        "-j --jobs",
+        "N",
+        "runs at a time on each machine (default: one per processor)",
+        type=command.jobs,
+    )
+    check: bool = flag("--check", "as in pops: test the problems without solving them")
+    no_board: bool = flag("--no-board", "as in pops: print no board")
+    seconds: Optional[float] = option(
+        "--seconds",
+        "N",
+        "stop a problem after N seconds, and go on with the others",
+        type=command.seconds,
+    )
+    unfinished: Optional[str] = option(
+        "--unfinished",
+        "FILE",
+        "where to put what was found of stopped problems (default: REPORT.unfinished)",
+    )
+    split: bool = flag(
+        "--split", "cut problems that take long into parts, for all processors and machines"
+    )
+    split_after: Optional[float] = option(
+        "--split-after",
+        "N",
+        f"how many seconds a problem has before it is cut ({SPLIT_AFTER:g}, or"
+        f" {SPLIT_SOON_AFTER:g} if there are fewer problems than processors)",
+        type=command.seconds,
+    )
+    split_depth: Optional[int] = option(
+        "--split-depth",
+        "D",
+        f"cut help play by its first D half-moves, 1 to 4 ({DEPTH_HERE}, with --sshlogin"
+        f" {DEPTH_THERE}): a greater D makes more and smaller parts",
+        type=int,
+        choices=DEPTHS,
+    )
+    pops_part: Optional[str] = option(
+        "--pops-part",
+        "PROGRAM",
+        "the program pops-part (default: $POPS_PART, the one next to pops or built with it,"
+        " the one on the PATH)",
+    )
+    resume: bool = flag("--resume", "go on where a run stopped; needs its journal")
+    journal: Optional[str] = option("--journal", "FILE", "the journal (default: REPORT.journal)")
+    pops: Optional[str] = option("--pops", "PROGRAM", LOOKED_FOR)
+    sshlogin: list[str] = option(
         "--sshlogin",
+        "HOST,..",
+        "run on these machines, through GNU parallel and ssh; : is this machine",
         type=_machines,
         action="append",
         default=[],
-        metavar="HOST,..",
-        help="run on these machines, through GNU parallel and ssh; : is this machine",
     )
-    add("--remote-pops", default="pops", metavar="PROGRAM", help="pops on those machines (pops)")
-    add(
-        "--remote-pops-part",
-        metavar="PROGRAM",
-        help="pops-part on those machines (pops-part)",
+    remote_pops: str = option(
+        "--remote-pops", "PROGRAM", "pops on those machines (pops)", default="pops"
     )
-    add(
+    remote_pops_part: Optional[str] = option(
+        "--remote-pops-part", "PROGRAM", "pops-part on those machines (pops-part)"
+    )
+    ssh: Optional[str] = option(
         "--ssh",
+        "COMMAND",
+        "the ssh that GNU parallel uses, with its options",
         type=_shell_command,
-        metavar="COMMAND",
-        help="the ssh that GNU parallel uses, with its options",
     )
 
+    @property
+    def inputs(self) -> Sequence[Optional[str]]:
+        """The inputs; None is standard input."""
+        inputs: list[Optional[str]] = [*self.files]
+        return inputs or [None]
 
-def command_line() -> argparse.ArgumentParser:
-    parser = command.parser(
-        NAME,
-        "Solves the problems of each FILE, or of standard input, on all processors.\n"
-        "It writes what pops writes for each FILE in turn, and ends with the same status.",
-        epilog="example: pops-many collection.pop -o collection.report\n"
-        "exit status: that of pops; 6 if the run was stopped, or some problems took longer than\n"
-        "--seconds or couldn't be run. A journal then keeps the finished ones, and --resume goes\n"
-        "on from there.",
-    )
-    for add in (_add_reports, _add_limits, _add_split, _add_journal, _add_machines):
-        add(parser)
-    return parser
+    @property
+    def report(self) -> Optional[str]:
+        """The report, where it is a file: beside it are the journal and what is unfinished."""
+        if self.output is None or self.each:
+            return self.output
+        return None if is_device(self.output) else self.output
 
 
 def arguments(words: list[str]) -> Settings:
     """Reads the words of the command line."""
-    parser = command_line()
-    settings = parser.parse_args(words, Settings())
+    settings = Settings.read(words)
     if settings.seconds == 0:
-        parser.error("--seconds needs a number above 0")
+        settings.refuse("--seconds needs a number above 0")
     if settings.resume and not (settings.report or settings.journal):
-        parser.error("--resume needs --output or --journal: the journal of the run that stopped")
+        settings.refuse("--resume needs --output or --journal: the journal of the run that stopped")
     if settings.each and not settings.files:
-        parser.error("--each needs FILEs")
+        settings.refuse("--each needs FILEs")
     if settings.each and (settings.index or settings.unfinished):
-        parser.error(
+        settings.refuse(
             "--each has no single report: --index and --unfinished can't be combined with it"
         )
     if settings.seconds and not (settings.report or settings.each or settings.unfinished):
-        parser.error("--seconds needs --output, --each or --unfinished: a second file for the rest")
-    refuse_split(parser, settings)
+        settings.refuse("--seconds needs --output, --each or --unfinished: a second file for the rest")
+    refuse_split(settings)
     return settings
 
 
-def refuse_split(
-    parser: argparse.ArgumentParser, settings: Settings
-) -> None:
+def refuse_split(settings: Settings) -> None:
     """Refuses what doesn't go together with parts, or is nothing without them."""
     if not settings.split:
-        for option in ("split_after", "split_depth", "pops_part", "remote_pops_part"):
-            if getattr(settings, option) is not None:
-                parser.error(f"--{option.replace('_', '-')} needs --split")
+        for name in ("split_after", "split_depth", "pops_part", "remote_pops_part"):
+            if getattr(settings, name) is not None:
+                settings.refuse(f"--{name.replace('_', '-')} needs --split")
         return
     if settings.check:
-        parser.error("--check solves nothing: there is nothing to --split")
+        settings.refuse("--check solves nothing: there is nothing to --split")
     if settings.seconds is not None:
-        parser.error("--seconds and --split can't be combined: a problem in parts has no limit")
+        settings.refuse("--seconds and --split can't be combined: a problem in parts has no limit")
     if settings.split_after == 0:
-        parser.error("--split-after needs a number above 0")
+        settings.refuse("--split-after needs a number above 0")
 
 
 def moment_of(settings: Settings, problems: int, jobs: int) -> float:

@@ -1,12 +1,11 @@
 """Turns a report of pops into a page of diagrams and solutions."""
 
-import argparse
 import sys
 from collections.abc import Iterator
 from typing import Optional
 
 from pops_companions import command
-from pops_companions.command import Status
+from pops_companions.command import Status, flag, option
 from pops_companions.input.given_source import read_given
 from pops_companions.report.items import AnyItem, FaultyItem
 from pops_companions.report.reader import CUT
@@ -16,47 +15,31 @@ from pops_companions.show.page import Page, Words
 NAME = "pops-page"
 
 
-class Settings(argparse.Namespace):
+class Settings(
+    command.Settings,
+    prog=NAME,
+    description="Turns a report of pops into an HTML page: for each problem a diagram with title and\n"
+    "author, next to it the solutions or the fault, in the report's own words.\n"
+    "Twins that pops-import made share one diagram.",
+    epilog="example: pops problems.pop | pops-page --input problems.pop -o problems.html",
+):
     """The words of the command line."""
 
-    report: Optional[str]
-    output: Optional[str]
-    heading: str
-    input: Optional[str]
-    unfinished: Optional[str]
-    apart: bool
-    encoding: str
-
-
-def arguments(words: list[str]) -> Settings:
-    parser = command.parser(
-        NAME,
-        "Turns a report of pops into an HTML page: for each problem a diagram with title and\n"
-        "author, next to it the solutions or the fault, in the report's own words.\n"
-        "Twins that pops-import made share one diagram.",
-        epilog="example: pops problems.pop | pops-page --input problems.pop -o problems.html",
-    )
-    add = parser.add_argument
-    add("report", nargs="?", metavar="REPORT", help="the report (default: standard input)")
-    add("-o", "--output", metavar="FILE", help="the page (default: standard output)")
-    add("--heading", metavar="TEXT", default="Problems", help="the page's heading (Problems)")
-    add(
+    report: Optional[str] = command.REPORT
+    output: Optional[str] = command.output("the page")
+    heading: str = option("--heading", "TEXT", "the page's heading (Problems)", default="Problems")
+    input: Optional[str] = option(
         "--input",
-        metavar="INPUT",
-        help="the input of the report: its Origin lines are shown, and what changes in twins",
+        "INPUT",
+        "the input of the report: its Origin lines are shown, and what changes in twins",
     )
-    add(
-        "--unfinished",
-        metavar="FILE",
-        help="what pops-many kept of problems that it stopped (REPORT.unfinished, if it is there)",
-    )
-    add("--apart", action="store_true", help="show each twin as a problem of its own")
-    command.add_encoding(parser)
-    return parser.parse_args(words, Settings())
+    unfinished: Optional[str] = command.UNFINISHED
+    apart: bool = flag("--apart", "show each twin as a problem of its own")
+    encoding: str = command.encoding()
 
 
 def main(words: list[str]) -> Status:
-    settings = arguments(words)
+    settings = Settings.read(words)
     given = () if settings.input is None else read_given(NAME, settings.input)
     shown = Page(settings.heading, settings.encoding, given, settings.apart, Words())
     status = Status.GOOD

@@ -1,6 +1,5 @@
 """Stands in for Popeye's command line: reads an input of Popeye, solves it, writes Popeye's layout."""
 
-import argparse
 import sys
 import time
 from collections.abc import Iterable, Iterator
@@ -11,7 +10,7 @@ from pops.engine import Engine
 from pops.run import Ending, Limits, Result
 from pops_companions import command
 from pops_companions.chess.stipulation import Play
-from pops_companions.command import CommandError, Status
+from pops_companions.command import CommandError, Status, option, word
 from pops_companions.export import popeye_layout
 from pops_companions.import_.draft import Draft, Options
 from pops_companions.import_.posing import Posed, posed
@@ -31,41 +30,31 @@ _MOST_REFUTATIONS = 200
 _MOST_SHOWN = 1 << 23
 
 
-class Settings(argparse.Namespace):
+class Settings(
+    command.Settings,
+    prog=NAME,
+    description="Stands in for Popeye's command line, for programs that call it: reads Popeye inputs as\n"
+    "pops-import does, solves them, and writes the solutions in Popeye's layout, with tries for\n"
+    "Option Try, variations for Option Variation, set play for Option SetPlay.",
+    epilog="example: popeye-py -maxtime 60 problem.inp\n"
+    "exit status: 0 if all is well, 1 if a problem can't be posed or solved in time, 3 if a file\n"
+    "can't be read or a program fails.",
+):
     """The words of the command line."""
 
-    files: list[str]
-    maxtime: Optional[int]
-    maxmem: Optional[str]
-    maxpos: Optional[str]
-    pops: Optional[str]
-    pops_tries: Optional[str]
-
-
-def arguments(words: list[str]) -> Settings:
-    """Reads the words of the command line."""
-    parser = command.parser(
-        NAME,
-        "Stands in for Popeye's command line, for programs that call it: reads Popeye inputs as\n"
-        "pops-import does, solves them, and writes the solutions in Popeye's layout, with tries for\n"
-        "Option Try, variations for Option Variation, set play for Option SetPlay.",
-        epilog="example: popeye-py -maxtime 60 problem.inp\n"
-        "exit status: 0 if all is well, 1 if a problem can't be posed or solved in time, 3 if a file\n"
-        "can't be read or a program fails.",
-    )
-    add = parser.add_argument
-    add("files", nargs="*", metavar="FILE", help="an input of Popeye (default: standard input)")
-    add(
+    files: list[str] = word("FILE", "an input of Popeye (default: standard input)", nargs="*")
+    maxtime: Optional[int] = option(
         "-maxtime",
+        "N",
+        "stop a problem after N seconds, and show what was found",
         type=command.number_from_one,
-        metavar="N",
-        help="stop a problem after N seconds, and show what was found",
     )
-    add("-maxmem", metavar="SIZE", help="without effect: the memory of pops is fixed")
-    add("-maxpos", metavar="N", help="without effect: pops keeps no positions")
-    add("--pops", metavar="PROGRAM", help=LOOKED_FOR)
-    add("--pops-tries", metavar="PROGRAM", help=TRIES_LOOKED_FOR)
-    return parser.parse_args(words, Settings())
+    maxmem: Optional[str] = option(
+        "-maxmem", "SIZE", "without effect: the memory of pops is fixed"
+    )
+    maxpos: Optional[str] = option("-maxpos", "N", "without effect: pops keeps no positions")
+    pops: Optional[str] = option("--pops", "PROGRAM", LOOKED_FOR)
+    pops_tries: Optional[str] = option("--pops-tries", "PROGRAM", TRIES_LOOKED_FOR)
 
 
 class LeftOut(Exception):
@@ -196,7 +185,7 @@ def write(solver: Solver, draft: Draft, one: Posed) -> Status:
 
 
 def main(words: list[str]) -> Status:
-    settings = arguments(words)
+    settings = Settings.read(words)
     inputs: list[Optional[str]] = [*settings.files]
     try:
         solver = Solver(settings)

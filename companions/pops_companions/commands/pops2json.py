@@ -1,13 +1,12 @@
 """Writes a report of pops, or a text of pops-tries, as JSON: one object an item or an event."""
 
-import argparse
 import json
 from collections.abc import Iterator
 from contextlib import AbstractContextManager
 from typing import Optional, Union
 
 from pops_companions import command
-from pops_companions.command import Status
+from pops_companions.command import Status, flag, option
 from pops_companions.input.given_source import read_given
 from pops_companions.report.items import AnyItem
 from pops_companions.report.reader import Allowed
@@ -24,32 +23,39 @@ from pops_companions.show.as_json import Form, Json, event_object, item_object, 
 NAME = "pops2json"
 
 
-class Settings(argparse.Namespace):
+class Settings(
+    command.Settings,
+    prog=NAME,
+    description="Writes a report of pops as JSON, one object per problem, each on its line.\n"
+    "docs/COMPANIONS.md explains the objects; --schema prints their JSON Schema.",
+    epilog="examples: pops problems.pop | pops2json -o problems.json\n"
+    "          pops long.pop | pops2json --events",
+):
     """The words of the command line."""
 
-    report: Optional[str]
-    output: Optional[str]
-    input: Optional[str]
-    array: bool
-    schema: bool
-    events: bool
-    tries: bool
-    unfinished: bool
-    encoding: str
+    report: Optional[str] = command.REPORT
+    output: Optional[str] = command.output("the JSON")
+    input: Optional[str] = option(
+        "--input",
+        "INPUT",
+        "the input of the report: its Origin lines, and the names of faulty problems",
+    )
+    array: bool = flag("--array", "one array of all the objects")
+    events: bool = flag(
+        "--events", "one object for each line, move and total, written as soon as it comes"
+    )
+    tries: bool = flag("--tries", "REPORT is a text of pops-tries")
+    unfinished: bool = flag(
+        "--unfinished",
+        "REPORT may end in a problem, as where pops was stopped; what pops-many kept in"
+        " REPORT.unfinished is added",
+    )
+    schema: bool = flag("--schema", "write the JSON Schema of an object; reads no report")
+    encoding: str = command.encoding()
 
     @property
     def allowed(self) -> Allowed:
         return Allowed.UNFINISHED if self.unfinished else Allowed.FINISHED
-
-    @property
-    def text(self) -> Text:
-        return Text.TRIES if self.tries else Text.REPORT
-
-    @property
-    def form(self) -> Form:
-        if self.events:
-            return Form.EVENT
-        return Form.TRIES if self.tries else Form.ITEM
 
 
 def objects_of_items(settings: Settings) -> Iterator[Json]:
@@ -73,8 +79,8 @@ def opened(settings: Settings) -> AbstractContextManager[Iterator[Union[AnyItem,
 
 def objects_of_events(settings: Settings) -> Iterator[Json]:
     """Yields the objects of the events, as they come."""
-    source = opened_events(NAME, settings.report, settings.text, settings.allowed)
-    with source as events:
+    text = Text.TRIES if settings.tries else Text.REPORT
+    with opened_events(NAME, settings.report, text, settings.allowed) as events:
         for event in events:
             yield event_object(event, settings.encoding)
 
@@ -96,49 +102,20 @@ def array(objects: Iterator[Json]) -> Iterator[str]:
 
 def arguments(words: list[str]) -> Settings:
     """Reads the words of the command line."""
-    parser = command.parser(
-        NAME,
-        "Writes a report of pops as JSON, one object per problem, each on its line.\n"
-        "docs/COMPANIONS.md explains the objects; --schema prints their JSON Schema.",
-        epilog="examples: pops problems.pop | pops2json -o problems.json\n"
-        "          pops long.pop | pops2json --events",
-    )
-    add = parser.add_argument
-    add("report", nargs="?", metavar="REPORT", help="the report (default: standard input)")
-    add("-o", "--output", metavar="FILE", help="the JSON (default: standard output)")
-    add(
-        "--input",
-        metavar="INPUT",
-        help="the input of the report: its Origin lines, and the names of faulty problems",
-    )
-    add("--array", action="store_true", help="one array of all the objects")
-    add(
-        "--events",
-        action="store_true",
-        help="one object for each line, move and total, written as soon as it comes",
-    )
-    add("--tries", action="store_true", help="REPORT is a text of pops-tries")
-    add(
-        "--unfinished",
-        action="store_true",
-        help="REPORT may end in a problem, as where pops was stopped; what pops-many kept in"
-        " REPORT.unfinished is added",
-    )
-    add("--schema", action="store_true", help="write the JSON Schema of an object; reads no report")
-    command.add_encoding(parser)
-    settings = parser.parse_args(words, Settings())
+    settings = Settings.read(words)
     if settings.schema and (settings.report is not None or settings.input is not None):
-        parser.error("--schema reads no report")
+        settings.refuse("--schema reads no report")
     if settings.events and (settings.array or settings.input is not None):
-        parser.error("--events goes without --array and --input")
+        settings.refuse("--events goes without --array and --input")
     return settings
 
 
 def main(words: list[str]) -> Status:
     settings = arguments(words)
     if settings.schema:
+        form = Form.EVENT if settings.events else Form.TRIES if settings.tries else Form.ITEM
         with command.written(settings.output) as target:
-            target.write((json.dumps(schema(settings.form), indent=1) + "\n").encode())
+            target.write((json.dumps(schema(form), indent=1) + "\n").encode())
         return Status.GOOD
     objects = objects_of_events(settings) if settings.events else objects_of_items(settings)
     with command.written(settings.output) as target:

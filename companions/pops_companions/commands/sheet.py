@@ -1,6 +1,5 @@
 """Prints the solutions of a collection as magazines do: short notation, threats, tries, authors."""
 
-import argparse
 import io
 import os
 import shutil
@@ -8,11 +7,11 @@ import subprocess
 import sys
 from collections.abc import Iterable
 from pathlib import Path
-from typing import NoReturn, Optional, Union
+from typing import Optional, Union
 
 from pops_companions import command
 from pops_companions.chess.stipulation import Play
-from pops_companions.command import CommandError, Status
+from pops_companions.command import CommandError, Status, flag, option, word
 from pops_companions.input.given import GivenProblem, given_problems
 from pops_companions.input.given_source import refuse_other_text, warn_of_rest
 from pops_companions.many import sessions
@@ -28,8 +27,8 @@ from pops_companions.many.tries_program import TRIES_LOOKED_FOR, TriesProgram, f
 from pops_companions.report.items import AnyItem, Board, FaultyItem, HeadlessItem, SoundItem
 from pops_companions.report.reader import ReportError, read_unfinished_report
 from pops_companions.report.source import warn_of_names
-from pops_companions.report.tries import TriesItem, is_of_item, read_tries
-from pops_companions.review.kept_tries import refuse_numbers_twice
+from pops_companions.report.tries import TriesItem, is_of_item
+from pops_companions.review.kept_tries import refuse_numbers_twice, tries_of_text
 from pops_companions.sheet.as_html import Layout, as_html
 from pops_companions.sheet.as_latex import as_latex
 from pops_companions.sheet.as_text import as_text
@@ -46,6 +45,8 @@ NAME = "pops-sheet"
 _HALF_MOVES_SHOWN = 3
 # More problems than these are counted and not named.
 _MOST_NUMBERS = 10
+# The most refutations of a try that pops-tries takes.
+_MOST_REFUTATIONS = 200
 # The most diagrams of a row.
 _MOST_IN_A_ROW = 8
 FORMS = ("html", "latex", "pdf", "text")
@@ -56,126 +57,85 @@ WRITTEN_TO = ("CHROME_CONFIG_HOME", "XDG_CACHE_HOME", "XDG_RUNTIME_DIR")
 BROWSERS = ("chromium", "chromium-browser", "google-chrome")
 
 
-class Settings(argparse.Namespace):
+class Settings(
+    command.Settings,
+    prog=NAME,
+    description="Prints the solutions of the problems of INPUT as magazines do: set play, tries and keys in\n"
+    "short notation, threats, refutations, defences with the same continuations together;\n"
+    "above each diagram author, title, source and award, below it stipulation and number of\n"
+    "men; at the end an index of authors. It runs pops and pops-tries, or takes their texts.\n"
+    "Without pops-tries it shows the defences that pops shows, and no threats and tries.",
+    epilog="example: pops-sheet tourney.pop --language de -o sheet.html\n"
+    "         pops-sheet tourney.pop --report tourney.report --to latex -o sheet.tex\n"
+    "exit status: 0 if all is well, 1 if a problem is faulty or isn't solved to the end, 2 for a\n"
+    "mistake in the command line, 3 if a text can't be read, isn't what it should be or can't be written.",
+):
     """The words of the command line."""
 
-    input: str
-    report: Optional[str]
-    tries: str
-    tries_text: Optional[str]
-    refutations: int
-    to: str
-    language: str
-    figures: bool
-    heading: Optional[str]
-    per_row: Optional[int]
-    first_number: int
-    seconds: float
-    jobs: Optional[int]
-    apart: bool
-    output: Optional[str]
-    pops: Optional[str]
-    pops_tries: Optional[str]
-    encoding: str
-
-
-def _refutations(text: str) -> int:
-    if not text.isascii() or not text.isdigit() or int(text) > 200:
-        raise argparse.ArgumentTypeError(f"{text!r} is no number from 0 to 200")
-    return int(text)
-
-
-def _per_row(text: str) -> int:
-    number = command.number_from_one(text)
-    if number > _MOST_IN_A_ROW:
-        raise argparse.ArgumentTypeError(f"{text!r} is no number from 1 to {_MOST_IN_A_ROW}")
-    return number
-
-
-def _add_forms(parser: argparse.ArgumentParser) -> None:
-    """Adds the options for what is written."""
-    add = parser.add_argument
-    add("--to", choices=FORMS, default="html", help="the form (html); pdf needs chromium")
-    add(
+    input: str = word("INPUT", "an input of pops")
+    report: Optional[str] = option(
+        "--report", "REPORT", "the report of pops (default: pops is run)"
+    )
+    tries: str = option(
+        "--tries",
+        "WHICH",
+        "the tries that are shown: all, variations (those with a threat, or with a defence that"
+        " doesn't refute), none; another word is a TEXT of --tries-text (all)",
+        default=TriesShown.ALL.value,
+    )
+    tries_text: Optional[str] = option(
+        "--tries-text", "TEXT", "the text of pops-tries (default: pops-tries is run)"
+    )
+    refutations: int = option(
+        "--refutations",
+        "N",
+        "show tries with at most N refutations, if pops-tries is run (1)",
+        type=command.number_in(0, _MOST_REFUTATIONS),
+        default=1,
+    )
+    to: str = option(
+        "--to", None, "the form (html); pdf needs chromium", choices=FORMS, default="html"
+    )
+    language: str = option(
         "--language",
+        None,
+        "the language of letters and words: English, German, French (en)",
         choices=tuple(LANGUAGES),
         default="en",
-        help="the language of letters and words: English, German, French (en)",
     )
-    add("--figures", action="store_true", help="figures of the men instead of letters")
-    add("--heading", metavar="TEXT", help="the sheet's heading (the name of INPUT)")
-    add(
+    figures: bool = flag("--figures", "figures of the men instead of letters")
+    heading: Optional[str] = option("--heading", "TEXT", "the sheet's heading (the name of INPUT)")
+    per_row: Optional[int] = option(
         "--per-row",
-        type=_per_row,
-        metavar="N",
-        help="N diagrams a row, all solutions after them, as for originals (html and pdf)",
+        "N",
+        "N diagrams a row, all solutions after them, as for originals (html and pdf)",
+        type=command.number_in(1, _MOST_IN_A_ROW),
     )
-    add(
+    first_number: int = option(
         "--first-number",
+        "N",
+        "the number of the first problem (1)",
         type=command.number_from_one,
         default=1,
-        metavar="N",
-        help="the number of the first problem (1)",
     )
-    add("--apart", action="store_true", help="show each twin by itself, as 1a, 1b")
-    add("-o", "--output", metavar="SHEET", help="the sheet (default: standard output)")
-
-
-def _add_runs(parser: argparse.ArgumentParser) -> None:
-    """Adds the options for the programs that are run."""
-    add = parser.add_argument
-    command.add_limits(parser)
-    add("--pops", metavar="PROGRAM", help=LOOKED_FOR)
-    add("--pops-tries", metavar="PROGRAM", help=TRIES_LOOKED_FOR)
-
-
-def command_line() -> argparse.ArgumentParser:
-    parser = command.parser(
-        NAME,
-        "Prints the solutions of the problems of INPUT as magazines do: set play, tries and keys in\n"
-        "short notation, threats, refutations, defences with the same continuations together;\n"
-        "above each diagram author, title, source and award, below it stipulation and number of\n"
-        "men; at the end an index of authors. It runs pops and pops-tries, or takes their texts.\n"
-        "Without pops-tries it shows the defences that pops shows, and no threats and tries.",
-        epilog="example: pops-sheet tourney.pop --language de -o sheet.html\n"
-        "         pops-sheet tourney.pop --report tourney.report --to latex -o sheet.tex\n"
-        "exit status: 0 if all is well, 1 if a problem is faulty or isn't solved to the end, 2 for a\n"
-        "mistake in the command line, 3 if a text can't be read, isn't what it should be or can't be written.",
-    )
-    add = parser.add_argument
-    add("input", metavar="INPUT", help="an input of pops")
-    add("--report", metavar="REPORT", help="the report of pops (default: pops is run)")
-    add(
-        "--tries",
-        metavar="WHICH",
-        default=TriesShown.ALL.value,
-        help="the tries that are shown: all, variations (those with a threat, or with a defence that"
-        " doesn't refute), none; another word is a TEXT of --tries-text (all)",
-    )
-    add("--tries-text", metavar="TEXT", help="the text of pops-tries (default: pops-tries is run)")
-    add(
-        "--refutations",
-        type=_refutations,
-        default=1,
-        metavar="N",
-        help="show tries with at most N refutations, if pops-tries is run (1)",
-    )
-    _add_forms(parser)
-    _add_runs(parser)
-    command.add_encoding(parser)
-    return parser
+    apart: bool = flag("--apart", "show each twin by itself, as 1a, 1b")
+    output: Optional[str] = command.output("the sheet", "SHEET")
+    seconds: float = command.SECONDS
+    jobs: Optional[int] = command.JOBS
+    pops: Optional[str] = option("--pops", "PROGRAM", LOOKED_FOR)
+    pops_tries: Optional[str] = option("--pops-tries", "PROGRAM", TRIES_LOOKED_FOR)
+    encoding: str = command.encoding()
 
 
 def arguments(words: list[str]) -> Settings:
     """Reads the words of the command line."""
-    parser = command_line()
-    settings = parser.parse_args(words, Settings())
+    settings = Settings.read(words)
     if settings.tries not in (it.value for it in TriesShown):
         settings.tries_text, settings.tries = settings.tries, TriesShown.ALL.value
     if settings.figures and settings.to == "text":
-        parser.error("--figures goes with --to html, latex or pdf")
+        settings.refuse("--figures goes with --to html, latex or pdf")
     if settings.per_row and settings.to not in ("html", "pdf"):
-        parser.error("--per-row goes with --to html or pdf")
+        settings.refuse("--per-row goes with --to html or pdf")
     return settings
 
 
@@ -196,18 +156,16 @@ class Texts:
                 return self._solving.items(self._pops())
             return list(read_unfinished_report(io.BytesIO(command.read_all(named))))
         except ReportError as error:
-            self._refuse(named or "the output of pops", "no report of pops", error)
+            message = f"{named or 'the output of pops'} is no report of pops: {error}"
+            raise CommandError(Status.DEVICE, message) from None
 
     def tries(self, items: list[AnyItem]) -> dict[int, TriesItem]:
         """Returns the tries of these items; none without pops-tries."""
         named = self._settings.tries_text
-        try:
-            if named is None:
-                return self._solved_tries(items)
-            found = list(read_tries(io.BytesIO(command.read_all(named))))
-        except ReportError as error:
-            self._refuse(named or "the output of pops-tries", "no text of pops-tries", error)
-        refuse_numbers_twice(str(named), [item.number for item in found])
+        if named is None:
+            return self._solved_tries(items)
+        found = list(tries_of_text(named, [command.read_all(named)]))
+        refuse_numbers_twice(named, [item.number for item in found])
         sound = {item.number for item in items if isinstance(item, SoundItem)}
         for item in found:
             if isinstance(item, FaultyItem) and item.number in sound:
@@ -242,9 +200,6 @@ class Texts:
             return find_tries(self._settings.pops_tries, pops)
         except MissingError as error:
             raise CommandError(Status.DEVICE, str(error)) from None
-
-    def _refuse(self, name: str, why: str, error: ReportError) -> NoReturn:
-        raise CommandError(Status.DEVICE, f"{name} is {why}: {error}") from None
 
 
 def with_missing(items: list[AnyItem], given: list[GivenProblem]) -> list[AnyItem]:
@@ -375,30 +330,6 @@ def pdf_of(page: str) -> bytes:
         return target.read_bytes()
 
 
-def sheet(settings: Settings) -> Status:
-    """Writes the sheet."""
-    texts = Texts(settings)
-    command.try_out(settings.output)
-    given, boards = given_problems(texts.input), boards_of(texts.input)
-    items = texts.items()
-    warn_of_rest(NAME, settings.input, texts.input)
-    warn_of_names(NAME, settings.report or settings.input, items, settings.encoding)
-    refuse_other_report(items, given, boards)
-    tries = texts.tries(items) if any(map(is_battle, items)) else {}
-    refuse_others("text of tries", tries.values(), given, boards)
-    refuse_other_tries(items, tries)
-    items = with_missing(items, given)
-    shown = TriesShown(settings.tries)
-    made = Sheet(boards, tries, LANGUAGES[settings.language], settings.encoding, shown)
-    found = groups(iter(items), given, settings.encoding, False)
-    entries = list(made.entries(found, settings.first_number, settings.apart))
-    warn_of_short_lines(entries, tries)
-    written = written_as(settings, entries)
-    with command.written(settings.output) as target:
-        target.write(written)
-    return Status.GOOD if all(map(is_solved, items)) else Status.FAULTY
-
-
 def is_solved(item: AnyItem) -> bool:
     """Returns whether an item is solved to the end."""
     return isinstance(item, SoundItem) and item.unfinished is None
@@ -424,4 +355,24 @@ def written_as(settings: Settings, entries: list[Entry]) -> bytes:
 
 
 def main(words: list[str]) -> Status:
-    return sheet(arguments(words))
+    settings = arguments(words)
+    texts = Texts(settings)
+    command.try_out(settings.output)
+    given, boards = given_problems(texts.input), boards_of(texts.input)
+    items = texts.items()
+    warn_of_rest(NAME, settings.input, texts.input)
+    warn_of_names(NAME, settings.report or settings.input, items, settings.encoding)
+    refuse_other_report(items, given, boards)
+    tries = texts.tries(items) if any(map(is_battle, items)) else {}
+    refuse_others("text of tries", tries.values(), given, boards)
+    refuse_other_tries(items, tries)
+    items = with_missing(items, given)
+    shown = TriesShown(settings.tries)
+    made = Sheet(boards, tries, LANGUAGES[settings.language], settings.encoding, shown)
+    found = groups(iter(items), given, settings.encoding, False)
+    entries = list(made.entries(found, settings.first_number, settings.apart))
+    warn_of_short_lines(entries, tries)
+    written = written_as(settings, entries)
+    with command.written(settings.output) as target:
+        target.write(written)
+    return Status.GOOD if all(map(is_solved, items)) else Status.FAULTY

@@ -1,16 +1,15 @@
 """Says which problems of a report of pops are sound, and what is wrong with the others."""
 
-import argparse
 from collections.abc import Callable, Iterator
 from contextlib import contextmanager
 from functools import partial
 from typing import Optional
 
 from pops_companions import command
-from pops_companions.command import CommandError, Status
+from pops_companions.command import CommandError, Status, flag, option, word
 from pops_companions.input.given_source import read_given
 from pops_companions.input.writing import text_of_problems
-from pops_companions.report.source import NamedText, unfinished_beside
+from pops_companions.report.source import NamedText, opened_unfinished_report, unfinished_beside
 from pops_companions.review.beside import Beside
 from pops_companions.review.judged_groups import JudgedGroup
 from pops_companions.review.judged_report import Form, JudgedReport
@@ -25,113 +24,69 @@ from pops_companions.review.judgement_text import (
 )
 from pops_companions.review.posing import posed_problems
 from pops_companions.review.kept_tries import kept_tries
-from pops_companions.review.reading import refused_as_device, reviewed_unfinished_report
 
 NAME = "pops-test"
 
 
-class Settings(argparse.Namespace):
+# What is written in place of a text.
+_FORMS = command.OneOf()
+
+
+class Settings(
+    command.Settings,
+    prog=NAME,
+    description="Says which problems of a report of pops are sound, and what is wrong with the others:\n"
+    "no solution, cooks, short solutions. Also lists duals, set play and unprovided checks.\n"
+    "docs/SOUNDNESS.md explains each word, and what a report can't show.",
+    epilog="example: pops problems.pop > problems.report\n"
+    "         pops-test --pose problems.pop | pops > shorter.report\n"
+    "         pops-test problems.report --input problems.pop --short shorter.report\n"
+    "exit status: 0 if all problems are sound, 1 if one isn't or is undecided, 2 for a\n"
+    "mistake in the command line, 3 if a text can't be read or isn't what it should be.",
+):
     """The words of the command line."""
 
-    text: Optional[str]
-    input: Optional[str]
-    solutions: int
-    pose: bool
-    short: Optional[str]
-    tries: Optional[str]
-    unfinished: Optional[str]
-    csv: bool
-    page: bool
-    heading: str
-    apart: bool
-    all: bool
-    output: Optional[str]
-    encoding: str
-
-
-def _add_evidence(parser: argparse.ArgumentParser) -> None:
-    """Adds the options for what the report alone doesn't show."""
-    add = parser.add_argument
-    add(
-        "--pose",
-        action="store_true",
-        help="write the input that asks for an input's short solutions, and nothing else",
+    text: Optional[str] = word(
+        "REPORT", "the report, or with --pose the input (default: standard input)", nargs="?"
     )
-    add("--short", metavar="REPORT", help="the report of what --pose wrote")
-    add(
-        "--tries",
-        metavar="TEXT",
-        help="the text of pops-tries: threats, zugzwang, tries, and duals only after defences",
-    )
-    add(
-        "--unfinished",
-        metavar="FILE",
-        help="what pops-many kept of problems that it stopped (REPORT.unfinished, if it is there)",
-    )
-
-
-def _add_forms(parser: argparse.ArgumentParser) -> None:
-    """Adds the options for what is written."""
-    add = parser.add_argument
-    form = parser.add_mutually_exclusive_group()
-    form.add_argument("--csv", action="store_true", help="one row of CSV per problem")
-    form.add_argument("--page", action="store_true", help="an HTML page with diagrams")
-    add(
-        "--heading",
-        metavar="TEXT",
-        default="Soundness",
-        help="the page's heading (Soundness)",
-    )
-    add("--apart", action="store_true", help="judge each twin by itself, as --csv always does")
-    add("--all", action="store_true", help=f"show all moves of a finding, not only {MOST_LINES}")
-    add("-o", "--output", metavar="FILE", help="what is written (default: standard output)")
-
-
-def command_line() -> argparse.ArgumentParser:
-    parser = command.parser(
-        NAME,
-        "Says which problems of a report of pops are sound, and what is wrong with the others:\n"
-        "no solution, cooks, short solutions. Also lists duals, set play and unprovided checks.\n"
-        "docs/SOUNDNESS.md explains each word, and what a report can't show.",
-        epilog="example: pops problems.pop > problems.report\n"
-        "         pops-test --pose problems.pop | pops > shorter.report\n"
-        "         pops-test problems.report --input problems.pop --short shorter.report\n"
-        "exit status: 0 if all problems are sound, 1 if one isn't or is undecided, 2 for a\n"
-        "mistake in the command line, 3 if a text can't be read or isn't what it should be.",
-    )
-    add = parser.add_argument
-    add(
-        "text",
-        nargs="?",
-        metavar="REPORT",
-        help="the report, or with --pose the input (default: standard input)",
-    )
-    add(
+    input: Optional[str] = option(
         "--input",
-        metavar="INPUT",
-        help="the input of the report; `Remark solutions 2` gives a problem's wanted number",
+        "INPUT",
+        "the input of the report; `Remark solutions 2` gives a problem's wanted number",
     )
-    add(
+    solutions: int = option(
         "--solutions",
+        "N",
+        "the wanted number for help problems without this Remark (1)",
         type=command.number_from_one,
         default=1,
-        metavar="N",
-        help="the wanted number for help problems without this Remark (1)",
     )
-    _add_evidence(parser)
-    _add_forms(parser)
-    command.add_encoding(parser)
-    return parser
+    pose: bool = flag(
+        "--pose", "write the input that asks for an input's short solutions, and nothing else"
+    )
+    short: Optional[str] = option("--short", "REPORT", "the report of what --pose wrote")
+    tries: Optional[str] = option(
+        "--tries",
+        "TEXT",
+        "the text of pops-tries: threats, zugzwang, tries, and duals only after defences",
+    )
+    unfinished: Optional[str] = command.UNFINISHED
+    csv: bool = flag("--csv", "one row of CSV per problem", one_of=_FORMS)
+    page: bool = flag("--page", "an HTML page with diagrams", one_of=_FORMS)
+    heading: str = option("--heading", "TEXT", "the page's heading (Soundness)", default="Soundness")
+    apart: bool = flag("--apart", "judge each twin by itself, as --csv always does")
+    all: bool = flag("--all", f"show all moves of a finding, not only {MOST_LINES}")
+    output: Optional[str] = command.output("what is written")
+    encoding: str = command.encoding()
 
 
 def arguments(words: list[str]) -> Settings:
     """Reads the words of the command line."""
-    parser = command_line()
-    settings = parser.parse_args(words, Settings())
+    settings = Settings.read(words)
     beside = [settings.input, settings.short, settings.tries, settings.unfinished]
     beside += ["--csv"] * settings.csv + ["--page"] * settings.page
     if settings.pose and any(beside):
-        parser.error("--pose goes only with an input and --output")
+        settings.refuse("--pose goes only with an input and --output")
     return settings
 
 
@@ -169,11 +124,11 @@ def opened_texts(
     named = NamedText(NAME, file or "standard input", encoding)
     report = JudgedReport(named, beside, form_of(settings), tally)
     if unfinished_beside(file, settings.unfinished) is None:
-        with refused_as_device(), command.opened(file) as source:
+        with command.opened(file) as source:
             groups, texts = partial(report.groups, source), partial(report.texts, source)
             yield texts_of(settings, tally, groups, texts)
         return
-    with reviewed_unfinished_report(NAME, file, settings.unfinished, encoding) as items:
+    with opened_unfinished_report(NAME, file, settings.unfinished, encoding) as items:
         groups = partial(report.groups_of, items)
         yield texts_of(settings, tally, groups, lambda: report.texts_of(groups()))
 

@@ -9,11 +9,11 @@ from pops_companions.command import CommandError, Status
 from pops_companions.input.given import GivenProblem
 from pops_companions.input.given_source import read_given
 from pops_companions.report.items import AnyItem, FaultyItem, SoundItem
+from pops_companions.report.source import opened_unfinished_report
 from pops_companions.report.tries import TriesItem, is_of_item
 from pops_companions.review.kept_tries import KnownTries
 from pops_companions.review.judging import Judgement, KeptJudgements, judged, missing
 from pops_companions.review.posing import AnswersError, ShortAnswers
-from pops_companions.review.reading import reviewed_unfinished_report
 
 # Without an input no more problems than these are listed as missing.
 _MOST_LACKING = 10_000
@@ -53,7 +53,7 @@ class Beside:
         if input_file is not None:
             self.given = read_given(companion, input_file)
         if short_file is not None:
-            with reviewed_unfinished_report(companion, short_file, None, "utf-8") as items:
+            with opened_unfinished_report(companion, short_file, None, "utf-8") as items:
                 try:
                     self._answers = ShortAnswers(items)
                 except AnswersError as error:

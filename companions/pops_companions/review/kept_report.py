@@ -12,7 +12,6 @@ from pops_companions.report.items import Item
 from pops_companions.report.reader import ReportError, read_report
 from pops_companions.report.source import items_of_report
 from pops_companions.review.matching import Heads
-from pops_companions.review.reading import refused_as_device
 
 _BEGIN = b"problem "
 # Takes how many bytes of how many are read.
@@ -74,8 +73,7 @@ def kept_report(
         size = source.seek(0, 2)
         source.seek(0)
         heads = Heads()
-        with refused_as_device():
-            for item in items_of_report(companion, name, source, encoding):
-                heads.add(item)
-                told(source.tell(), size)
+        for item in items_of_report(companion, name, source, encoding):
+            heads.add(item)
+            told(source.tell(), size)
         yield KeptReport(name, source, heads)

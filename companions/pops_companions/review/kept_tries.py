@@ -2,7 +2,7 @@
 
 import os
 import tempfile
-from collections.abc import Iterator, Sequence
+from collections.abc import Iterable, Iterator, Sequence
 from contextlib import ExitStack, contextmanager
 from typing import BinaryIO, NoReturn, Optional, Protocol, Union, cast
 
@@ -10,7 +10,7 @@ from pops_companions import command
 from pops_companions.command import CommandError, Status
 from pops_companions.report.items import FaultyItem
 from pops_companions.report.reader import ReportError
-from pops_companions.report.tries import TriesItem, read_tries
+from pops_companions.report.tries import TriesItem, TriesReportItem, read_tries
 
 _BEGIN = b"problem "
 
@@ -31,11 +31,7 @@ class KeptTries:
         self._name = name
         self._handle = source.fileno()
         source.seek(0)
-        try:
-            numbers = [item.number for item in read_tries(source)]
-        except ReportError as error:
-            message = f"{name} is no text of pops-tries: {error}"
-            raise CommandError(Status.DEVICE, message) from None
+        numbers = [item.number for item in tries_of_text(name, source)]
         refuse_numbers_twice(name, numbers)
         self._places = dict(_places(source))
 
@@ -55,6 +51,15 @@ class KeptTries:
 
     def _refuse_changed(self) -> NoReturn:
         raise CommandError(Status.DEVICE, f"{self._name} was changed while it was read")
+
+
+def tries_of_text(name: str, source: Iterable[bytes]) -> Iterator[TriesReportItem]:
+    """Yields the items of a text of tries that messages name so. CommandError where it isn't one."""
+    try:
+        yield from read_tries(source)
+    except ReportError as error:
+        message = f"{name} is no text of pops-tries: {error}"
+        raise CommandError(Status.DEVICE, message) from None
 
 
 def refuse_numbers_twice(name: str, numbers: Sequence[int]) -> None:

@@ -10,7 +10,7 @@ from pops_companions.stored import stored
 
 # The men of a line before it is put into letters or figures: characters of private use.
 MARKS: Mapping[Kind, str] = {kind: chr(0xE000 + place) for place, kind in enumerate(Kind)}
-_COLOUR_MARKS: Mapping[Colour, str] = {Colour.WHITE: "\ue010", Colour.BLACK: "\ue011"}
+COLOUR_MARKS: Mapping[Colour, str] = {Colour.WHITE: "\ue010", Colour.BLACK: "\ue011"}
 # What pops-import makes of a date: `6 August 1977`.
 _DATE = re.compile(rf"(?:([0-9]{{1,2}}) )?\b({'|'.join(MONTHS)}) ([0-9]{{4}})$")
 # White's figures stand for the men of both sides; fairy men have none.
@@ -67,13 +67,9 @@ LANGUAGES: Mapping[str, Language] = {
 }
 
 
-def colour_mark(colour: Colour) -> str:
-    return _COLOUR_MARKS[colour]
-
-
 def marked_as(language: Language, men: Mapping[Kind, str]) -> dict[int, str]:
     """Returns what stands for each mark, for `str.translate`: these men, or the language's letters.
     """
     shown = {MARKS[kind]: men.get(kind, language.man(kind)) for kind in Kind}
-    shown.update(zip(_COLOUR_MARKS.values(), language.colours))
+    shown.update(zip(COLOUR_MARKS.values(), language.colours))
     return {ord(mark): text for mark, text in shown.items()}

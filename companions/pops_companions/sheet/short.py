@@ -7,7 +7,7 @@ from pops_companions.chess.men import Kind, Square
 from pops_companions.chess.stipulation import Condition
 from pops_companions.report.moves import PlayedMove
 from pops_companions.sheet.boards import rivals
-from pops_companions.sheet.languages import MARKS, colour_mark
+from pops_companions.sheet.languages import COLOUR_MARKS, MARKS
 
 
 def short(men: Men, move: PlayedMove, condition: Optional[Condition]) -> str:
@@ -21,7 +21,7 @@ def short(men: Men, move: PlayedMove, condition: Optional[Condition]) -> str:
         parts.append("=" + MARKS[move.promotion])
     if move.rebirth is not None:
         reborn = move.rebirth.man
-        where = colour_mark(reborn.colour) + MARKS[reborn.kind] + move.rebirth.square.name
+        where = COLOUR_MARKS[reborn.colour] + MARKS[reborn.kind] + move.rebirth.square.name
         parts.append(f"[+{where}]")
     return "".join(parts) + mark
 

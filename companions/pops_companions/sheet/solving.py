@@ -16,9 +16,10 @@ from pops_companions.many.progress import Progress
 from pops_companions.many.tasks import UNFINISHED, Result, Source, tasks_of
 from pops_companions.many.tries_program import TriesProgram
 from pops_companions.report import lines
-from pops_companions.report.items import AnyItem
+from pops_companions.report.items import AnyItem, FaultyItem
 from pops_companions.report.reader import read_unfinished_report
-from pops_companions.report.tries import TriesItem, read_tries
+from pops_companions.report.tries import TriesItem
+from pops_companions.review.kept_tries import tries_of_text
 
 
 class Solving:
@@ -60,8 +61,7 @@ class Solving:
         pieces = {piece.number: piece for piece in cut(self._text)}
         progress = Progress(f"{self._companion}: tries")
         progress.begin(0, len(wanted))
-        found: dict[int, TriesItem] = {}
-        late: list[int] = []
+        texts: dict[int, Optional[bytes]] = {}
         with ThreadPoolExecutor(self._jobs) as pool:
             number_of: dict[Future[Optional[bytes]], int] = {}
             try:
@@ -70,7 +70,7 @@ class Solving:
                     number_of[pool.submit(program.text_of, problem)] = number
                 with progress.beating():
                     for future in as_completed(number_of):
-                        _take(future.result(), number_of[future], found, late)
+                        texts[number_of[future]] = future.result()
                         progress.one_more()
             except RunError as error:
                 program.stop()
@@ -80,20 +80,19 @@ class Solving:
                 raise
             finally:
                 progress.end()
-        return found, sorted(late)
+        found = {number: _item_of(text, number) for number, text in texts.items() if text is not None}
+        return found, [number for number in wanted if texts[number] is None]
 
 
-def _take(
-    text: Optional[bytes], number: int, found: dict[int, TriesItem], late: list[int]
-) -> None:
-    """Takes what pops-tries wrote of a problem; None where it took too long."""
-    if text is None:
-        late.append(number)
-        return
-    for item in read_tries(io.BytesIO(text)):
-        if not isinstance(item, TriesItem):
-            raise RunError(f"problem {number}: pops-tries calls it faulty, and pops sound")
-        found[number] = replace(item, number=number)
+def _item_of(text: bytes, number: int) -> TriesItem:
+    """Returns what pops-tries shows of a problem."""
+    found = list(tries_of_text("the output of pops-tries", [text]))
+    one = found[0] if len(found) == 1 else None
+    if not isinstance(one, TriesItem):
+        is_faulty = isinstance(one, FaultyItem)
+        said = "calls it faulty, and pops sound" if is_faulty else "shows another problem"
+        raise CommandError(Status.DEVICE, f"problem {number}: pops-tries {said}")
+    return replace(one, number=number)
 
 
 def _marked(result: Result) -> bytes:

@@ -8,7 +8,7 @@ from typing import Optional
 from pops_companions.chess.attacks import Men
 from pops_companions.chess.men import Changes, Man, Square
 from pops_companions.report.items import AnyItem, SoundItem
-from pops_companions.sheet.languages import MARKS, colour_mark
+from pops_companions.sheet.languages import COLOUR_MARKS, MARKS
 from pops_companions.sheet.sheet_words import SheetWords
 from pops_companions.show.twins import Twin
 
@@ -82,11 +82,11 @@ def _of_men(before: Men, now: Men) -> Iterator[str]:
         yield f"{_shown(man, square)}→{target.name}"
     for square in [it for it in gone if it in new]:
         old, man = gone.pop(square), new.pop(square)
-        colour = "" if old.colour is man.colour else colour_mark(man.colour)
+        colour = "" if old.colour is man.colour else COLOUR_MARKS[man.colour]
         yield f"{_shown(old, square)}={colour}{MARKS[man.kind]}"
     yield from (f"–{_shown(man, square)}" for square, man in gone.items())
     for square, man in new.items():
-        yield f"+{colour_mark(man.colour)}{_shown(man, square)}"
+        yield f"+{COLOUR_MARKS[man.colour]}{_shown(man, square)}"
 
 
 def _exchanged(gone: dict[Square, Man], new: dict[Square, Man]) -> Iterator[str]:

@@ -55,7 +55,7 @@ def item_object(
         return {"number": item.number, "sound": False, **names, "fault": _fault(item.fault)}
     if isinstance(item, items.HeadlessItem):
         return {"number": item.number, **names, "unfinished": item.unfinished}
-    solutions = {"phases": _phases(item)} if isinstance(item, items.SoundItem) else _tries(item)
+    solutions = _tries(item) if isinstance(item, TriesItem) else _phases(item)
     ending = {} if item.unfinished is None else {"unfinished": item.unfinished}
     return {
         "number": item.number,
@@ -112,8 +112,8 @@ def _stipulation(stipulation: Stipulation) -> Json:
     }
 
 
-def _phases(item: items.SoundItem) -> Optional[list[Json]]:
-    return None if item.phases is None else [_phase(phase) for phase in item.phases]
+def _phases(item: items.SoundItem) -> Json:
+    return {"phases": None if item.phases is None else [_phase(phase) for phase in item.phases]}
 
 
 def _phase(phase: items.Phase) -> Json:

@@ -28,8 +28,8 @@ _SPECIAL = {
 
 
 class Sheet(NamedTuple):
-    """What a sheet says of a problem: number, source, award, stipulation, and in LaTeX what makes its
-    twins and the lines of its solution.
+    """What is said of a problem besides its title and authors: number, source, award, stipulation, and
+    in LaTeX what makes its twins and the lines of its solution.
 
     `fairy_men` are the names of the fairy men.
     """
@@ -47,62 +47,43 @@ def latex(group: Group, board: Board, encoding: str, sheet: Optional[Sheet] = No
     """Returns a problem with its twins as an environment `diagram`; its title stands for a
     dedication.
 
-    `board` is the first one's, whose item isn't faulty. The solution is the report's, or that of a
-    sheet.
+    `board` is the first one's, whose item isn't faulty. What a sheet doesn't say is the report's.
     """
-    white, black = numbers_of_men(board)
-    lines = [r"\begin{diagram}", *_names(group, encoding, sheet)]
-    lines.append(r"\pieces[%d+%d]{%s}" % (white, black, ", ".join(_pieces(board))))
-    lines += _asked(group, sheet)
-    fairy = _fairy_men(board, FAIRY_NAMES if sheet is None else sheet.fairy_men)
-    if fairy:
-        lines.append(r"\piecedefs{%s}" % "; ".join(fairy))
-    solution: Sequence[str]
-    if sheet is not None:
-        solution = sheet.solution
-    else:
-        solution = [line for twin in group.twins for line in _solution(twin, group.is_alone)]
-    if solution:
-        lines.append(r"\solution{%s}" % "\\newline\n".join(solution))
-    lines.append(r"\end{diagram}")
-    return "\n".join(lines) + "\n"
+    said = _of_report(group, encoding) if sheet is None else sheet
+    stipulation, _, condition = said.asked.partition(" ")
+    pieces = "pieces[%d+%d]" % numbers_of_men(board)
+    lines = [
+        ("specialdiagnum", said.number),
+        ("author", "" if group.author is None else authors(shown(group.author, encoding))),
+        ("dedic", "" if group.title is None else escaped(group.title)),
+        ("source", escaped(said.source)),
+        ("award", escaped(said.award)),
+        (pieces, ", ".join(_pieces(board))),
+        ("stipulation", escaped(stipulation)),
+        ("condition", escaped(condition)),
+        ("twins", r"\newline ".join(said.twins)),
+        ("piecedefs", "; ".join(_fairy_men(board, said.fairy_men))),
+        ("solution", "\\newline\n".join(said.solution)),
+    ]
+    written = [f"\\{name}{{{text}}}" for name, text in lines if text or name == pieces]
+    return "\n".join([r"\begin{diagram}", *written, r"\end{diagram}"]) + "\n"
 
 
-def _asked(group: Group, sheet: Optional[Sheet]) -> list[str]:
-    """Returns the lines of stipulation, condition and twins."""
-    if sheet is None:
-        assert isinstance(group.first, SoundItem)
-        changes = [it.heading for it in group.twins if it.change or it.has_own_diagram]
-        asked, twins = group.first.asked, [] if group.is_alone else list(map(escaped, changes))
-    else:
-        asked, twins = sheet.asked, list(sheet.twins)
-    stipulation, _, condition = asked.partition(" ")
-    lines = [r"\stipulation{%s}" % escaped(stipulation)]
-    if condition:
-        lines.append(r"\condition{%s}" % escaped(condition))
-    if twins:
-        lines.append(r"\twins{%s}" % r"\newline ".join(twins))
-    return lines
-
-
-def _names(group: Group, encoding: str, sheet: Optional[Sheet]) -> list[str]:
-    """Returns the lines above a diagram."""
-    lines = []
+def _of_report(group: Group, encoding: str) -> Sheet:
+    """Returns what a report, and its input, say of a problem."""
+    assert isinstance(group.first, SoundItem)
     given = group.twins[0].given
-    if sheet is not None:
-        lines.append(r"\specialdiagnum{%s}" % sheet.number)
-    if group.author is not None:
-        lines.append(r"\author{%s}" % authors(shown(group.author, encoding)))
-    if group.title is not None:
-        lines.append(r"\dedic{%s}" % escaped(group.title))
-    source = "" if sheet is None else sheet.source
-    if sheet is None and given is not None and given.origin is not None:
-        source = shown(given.origin, encoding)
-    if source:
-        lines.append(r"\source{%s}" % escaped(source))
-    if sheet is not None and sheet.award:
-        lines.append(r"\award{%s}" % escaped(sheet.award))
-    return lines
+    origin = None if given is None else given.origin
+    changes = [it.heading for it in group.twins if it.change or it.has_own_diagram]
+    return Sheet(
+        "",
+        "" if origin is None else shown(origin, encoding),
+        "",
+        group.first.asked,
+        [] if group.is_alone else list(map(escaped, changes)),
+        [line for twin in group.twins for line in _solution(twin, group.is_alone)],
+        FAIRY_NAMES,
+    )
 
 
 def authors(text: str) -> str:
