@@ -56,6 +56,8 @@ _MOST_TAILS = 8192
 State = Callable[[bytes], Sequence[events.Event]]
 # What an item says after its board.
 _Tail = tuple[Stipulation, Optional[Condition], Optional[tuple[items.Phase, ...]]]
+# What short items say after their boards, and what it needs on them, in all readings.
+_TAILS: dict[bytes, tuple[_Tail, Needs]] = {}
 
 
 @lru_cache(maxsize=1000)
@@ -100,8 +102,6 @@ class ReportReader:
         self._help = HelpState()
         # The moves of lines of help play, for each of their places.
         self._known_moves: dict[Form, list[KnownMoves]] = {}
-        # What short items say after their boards, and what it needs on them.
-        self._tails: dict[bytes, tuple[_Tail, Needs]] = {}
 
     def feed(self, data: bytes) -> Iterator[events.Event]:
         """Takes some bytes of the text, cut anywhere, and yields what they say.
@@ -141,7 +141,6 @@ class ReportReader:
         self._known.clear()
         self._known_here.clear()
         self._known_moves.clear()
-        self._tails.clear()
 
     @property
     def is_whole(self) -> bool:
@@ -264,7 +263,7 @@ class ReportReader:
             end = whole if found < 0 else found + len(lines.ITEM_END)
             head = lines.HEAD.match(text, at, end) if self._state == self._problem and found >= 0 else None
             tail = b"" if head is None else text[head.end() : end]
-            known = None if head is None else self._tails.get(tail)
+            known = None if head is None else _TAILS.get(tail)
             if head is not None and known is not None and known[1].are_met(head[4]) and _has_few_kings(head[4]):
                 self._line += text.count(b"\n", at, end)
                 title, author, ranks = head.group(2, 3, 4)
@@ -277,10 +276,10 @@ class ReportReader:
 
     def _note_tail(self, tail: bytes, item: items.AnyItem) -> None:
         """Notes what a finished item says after its board."""
-        if 0 < len(tail) <= _LONGEST_TAIL and len(self._tails) < _MOST_TAILS:
+        if 0 < len(tail) <= _LONGEST_TAIL and len(_TAILS) < _MOST_TAILS:
             if isinstance(item, items.SoundItem) and item.unfinished is None:
                 said = item.stipulation, item.condition, item.phases
-                self._tails[tail] = said, Needs(item.phases or ())
+                _TAILS[tail] = said, Needs(item.phases or ())
 
     def _items_of(self, lines_left: list[bytes], builder: ItemBuilder) -> Iterator[items.AnyItem]:
         """Takes lines, and yields the items that end in them."""
