@@ -10,8 +10,7 @@ from unittest import mock
 from pops_companions.many import forked
 from pops_companions.report import reader
 from pops_companions.report.reader import ReportReader
-from pops_companions.review import in_pieces, judging, like_problems
-from pops_companions.show import twins
+from pops_companions.review import in_pieces, judging
 from tests import run_here, support
 
 RANKS = b".......k ........ ........ ........ ........ ........ ........ RR......".split()
@@ -173,7 +172,7 @@ class InPieces(support.InRoom):
         text += text.partition(b"problem 300\n")[2]
         self.file.write_bytes(text)
         for words in (*WORDS, ["--encoding", "utf-16"]):
-            with mock.patch.object(reader, "_MOST_TAILS", 0), mock.patch.object(judging, "_MOST_KEPT", 0):
+            with mock.patch.multiple(reader, _MOST_TAILS=0, _TAILS={}), mock.patch.object(judging, "_MOST_KEPT", 0):
                 whole = run_here.companion("pops-test", str(self.file), *words)
             self.assertEqual(run_here.companion("pops-test", str(self.file), *words), whole)
             for processors in ({0}, {0, 1}):
@@ -185,11 +184,9 @@ class InPieces(support.InRoom):
         self.file.write_bytes(b"".join((b"problem %d\n" + body) % (number, number) for number in range(1, 400)))
         for module, name, most in (
             (judging, "judged", 2),
-            (like_problems, "has_usual_men", 2),
             (ReportReader, "_items_of", 3),
-            (twins, "_named", 100),
         ):
-            with pieces_of(8000), mock.patch.object(os, "sched_getaffinity", lambda _: {0}):
+            with pieces_of(8000), mock.patch.object(os, "sched_getaffinity", lambda _: {0}), mock.patch.object(reader, "_TAILS", {}):
                 with mock.patch.object(module, name, autospec=True, side_effect=getattr(module, name)) as made:
                     run_here.companion("pops-test", str(self.file))
             self.assertLessEqual(made.call_count, most)

@@ -137,9 +137,9 @@ def form_of(settings: Settings) -> Form:
     """Returns how each problem is shown."""
     encoding = settings.encoding
     if settings.csv:
-        return Form(encoding, True, lambda one: as_csv(one.judgements[0], encoding), False)
+        return Form(encoding, True, lambda one: as_csv(one.judgements[0], encoding))
     most = None if settings.all else MOST_LINES
-    return Form(encoding, settings.apart, lambda one: as_text(one, encoding, most), True)
+    return Form(encoding, settings.apart, lambda one: as_text(one, encoding, most))
 
 
 def texts_of(

@@ -5,7 +5,8 @@ from dataclasses import dataclass, field
 from typing import Any, Optional, Union
 
 from pops_companions.report import events, items, lines
-from pops_companions.report.tree import KnownNodes, TreeState
+from pops_companions.report.known_lines import KnownNodes
+from pops_companions.report.tree import TreeState
 
 
 @dataclass
@@ -36,8 +37,8 @@ class GrowingPhase:
     def add_known(
         self, source: Sequence[bytes], start: int, end: int, known: KnownNodes, tree: TreeState
     ) -> int:
-        """Adds the nodes of the lines between two places, as far as they are known and the tree doesn't
-        refuse them. Returns how many they are.
+        """Adds the nodes of the lines between two places, as far as the tree doesn't refuse them. Returns
+        how many they are.
         """
         below: list[list[Any]] = [self.solutions, *(node.below for _, node in self._path)]
         texts = self.lines
@@ -46,7 +47,7 @@ class GrowingPhase:
         parents, boards = tree.parents, tree.boards
         # (what `tree.refusal` and `tree.add` do, without their calls)
         for place in range(start, end):
-            found = known.get(source[place])
+            found = known[source[place]]
             if found is None:
                 break
             level, text, move, next_least, next_most, parent, (mask, value, kept, put) = found

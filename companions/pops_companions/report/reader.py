@@ -14,14 +14,13 @@ from functools import lru_cache
 from sys import intern
 from typing import Optional
 
-from pops_companions.chess.men import Colour
 from pops_companions.chess.stipulation import Condition, Play, Stipulation
 from pops_companions.report import events, items, lines
-from pops_companions.report.help_lines import HelpState, KnownMove, KnownMoves, LineRefused, Moves
+from pops_companions.report.help_lines import HelpState, LineRefused
 from pops_companions.report.item_builder import ItemBuilder
-from pops_companions.report.moves import Mark, PlayedMove, prefix
-from pops_companions.report.steps import Needs, board_number, read_step, step_of
-from pops_companions.report.tree import MOST_LEVELS, Detail, KnownNode, KnownNodes, TreeState
+from pops_companions.report.known_lines import MOST_KNOWN, Form, KnownMoves, KnownNode, KnownNodes
+from pops_companions.report.steps import Needs, board_number
+from pops_companions.report.tree import Detail, TreeState
 from pops_companions.stored import stored
 
 
@@ -46,8 +45,6 @@ _LONGEST_SHOWN = 60
 _FAULT_TEXTS: Sequence[str] = stored("input/fault_texts.json")["en"]
 # No line of a report is as long; so a text without line ends isn't read to its end, if it has one.
 _LONGEST_LINE = 1 << 20
-# So that the memory for known lines is bounded.
-_MOST_KNOWN = 100_000
 _PIECE = 1 << 16
 # More lines than the head of a problem has, with the line of its first phase.
 _LINES_OF_HEAD = 14
@@ -59,8 +56,8 @@ _MOST_TAILS = 8192
 State = Callable[[bytes], Sequence[events.Event]]
 # What an item says after its board.
 _Tail = tuple[Stipulation, Optional[Condition], Optional[tuple[items.Phase, ...]]]
-# What lines of a phase are known by.
-_Asked = tuple[Stipulation, bool, items.PhaseKind, bool]
+# What short items say after their boards, and what it needs on them, in all readings.
+_TAILS: dict[bytes, tuple[_Tail, Needs]] = {}
 
 
 @lru_cache(maxsize=1000)
@@ -100,15 +97,11 @@ class ReportReader:
         self._detail = Detail.UNKNOWN
         # Whether only the next line shows how deep the trees go.
         self._is_undecided = False
-        # What lines of battle play say, by the form of the text and how deep the trees go.
-        self._known: dict[_Asked, KnownNodes] = {}
-        self._known_here: KnownNodes = {}
-        self._known_count = 0
+        self._known: dict[Form, KnownNodes] = {}
+        self._known_here = KnownNodes(self._form)
         self._help = HelpState()
         # The moves of lines of help play, for each of their places.
-        self._known_moves: dict[_Asked, list[KnownMoves]] = {}
-        # What short items say after their boards, and what it needs on them.
-        self._tails: dict[bytes, tuple[_Tail, Needs]] = {}
+        self._known_moves: dict[Form, list[KnownMoves]] = {}
 
     def feed(self, data: bytes) -> Iterator[events.Event]:
         """Takes some bytes of the text, cut anywhere, and yields what they say.
@@ -148,8 +141,6 @@ class ReportReader:
         self._known.clear()
         self._known_here.clear()
         self._known_moves.clear()
-        self._tails.clear()
-        self._known_count = 0
 
     @property
     def is_whole(self) -> bool:
@@ -272,7 +263,7 @@ class ReportReader:
             end = whole if found < 0 else found + len(lines.ITEM_END)
             head = lines.HEAD.match(text, at, end) if self._state == self._problem and found >= 0 else None
             tail = b"" if head is None else text[head.end() : end]
-            known = None if head is None else self._tails.get(tail)
+            known = None if head is None else _TAILS.get(tail)
             if head is not None and known is not None and known[1].are_met(head[4]) and _has_few_kings(head[4]):
                 self._line += text.count(b"\n", at, end)
                 title, author, ranks = head.group(2, 3, 4)
@@ -285,10 +276,10 @@ class ReportReader:
 
     def _note_tail(self, tail: bytes, item: items.AnyItem) -> None:
         """Notes what a finished item says after its board."""
-        if 0 < len(tail) <= _LONGEST_TAIL and len(self._tails) < _MOST_TAILS:
+        if 0 < len(tail) <= _LONGEST_TAIL and len(_TAILS) < _MOST_TAILS:
             if isinstance(item, items.SoundItem) and item.unfinished is None:
                 said = item.stipulation, item.condition, item.phases
-                self._tails[tail] = said, Needs(item.phases or ())
+                _TAILS[tail] = said, Needs(item.phases or ())
 
     def _items_of(self, lines_left: list[bytes], builder: ItemBuilder) -> Iterator[items.AnyItem]:
         """Takes lines, and yields the items that end in them."""
@@ -338,24 +329,19 @@ class ReportReader:
         if lines_left[at] == lines.NOT_POSSIBLE:
             return 0
         self._state = self._solution
+        before = self._line
         if self._stipulation.play is Play.HELP:
             taken = self._take_help_lines(lines_left, at, builder)
         else:
             taken = self._take_nodes(lines_left, at, builder)
-        self._line += taken
+        self._line = before + taken
         self._count = builder.solutions_so_far
         return taken
 
     def _take_nodes(self, lines_left: list[bytes], at: int, builder: ItemBuilder) -> int:
         """Takes lines of battle play; returns how many."""
-        place, end = at, len(lines_left)
-        if self._detail is Detail.UNKNOWN:
-            end = self._look_ahead(lines_left, at)
-        while place < end:
-            place += builder.take_known(lines_left, place, end, self._known_here, self._tree)
-            if place == end or not self._note_new_node(lines_left[place]):
-                break
-        return place - at
+        end = self._look_ahead(lines_left, at)
+        return builder.take_known(lines_left, at, end, self._known_here, self._tree)
 
     def _look_ahead(self, lines_left: list[bytes], at: int) -> int:
         """Finds out how deep the trees go, if the lines from a place on show it; returns the place up to
@@ -366,7 +352,7 @@ class ReportReader:
         for place in range(at, len(lines_left)):
             if self._detail is not Detail.UNKNOWN:
                 break
-            node = self._known_node(lines_left[place])
+            node = self._known_here[lines_left[place]]
             if node is None:
                 break
             if self._shows_detail(node):
@@ -393,69 +379,15 @@ class ReportReader:
             if self._detail is Detail.FIRST_MOVES:
                 self._tree.least, self._tree.most = 0, self._first_levels
 
-    def _note_new_node(self, line: bytes) -> bool:
-        """Notes what a line says that wasn't known; returns whether it is one of battle play."""
-        if line.startswith(lines.SOLUTIONS) or line in self._known_here:
-            return False
-        return self._known_node(line) is not None
-
     def _take_help_lines(self, lines_left: list[bytes], at: int, builder: ItemBuilder) -> int:
-        """Takes lines of help play whose words are one move each; returns how many."""
-        state = self._help
+        """Takes lines of help play; returns how many."""
         for place in range(at, len(lines_left)):
-            text = lines_left[place].decode("latin-1")
-            try:
-                moves = state.moves_of(text) or self._moves_after_noting(text)
-            except LineRefused as refused:
-                self._line += place - at + 1
-                raise self.refused(str(refused), lines_left[place]) from None
-            if moves is None:
+            line = lines_left[place]
+            if not line[:1].isdigit():
                 return place - at
-            builder.take_help_line(items.HelpLine(text, moves))
+            self._line += 1
+            builder.take_help_line(self._help_line(line))
         return len(lines_left) - at
-
-    def _moves_after_noting(self, text: str) -> Optional[Moves]:
-        """Returns the moves of a line some words of which weren't known; None if a move has two words."""
-        return self._help.moves_of(text) if self._note_moves(text.split(" ")) else None
-
-    def _note_moves(self, words: list[str]) -> bool:
-        """Notes the moves of a line's words that weren't known; returns whether now all are."""
-        if len(words) != self._halves:
-            return False
-        for place, (known, word) in enumerate(zip(self._help.known, words)):
-            if word in known:
-                continue
-            half = self._first_half + place
-            move = whole_move(word, self._lead(half), half, self._stipulation.side(half))
-            if move is None or not self._is_noted(place, word, move):
-                return False
-        return True
-
-    def _lead(self, half: int) -> str:
-        """Returns the number before a half-move in a line of help play."""
-        return prefix(half) if half % 2 == 1 or half == self._first_half else ""
-
-    def _is_noted(self, place: int, word: str, move: PlayedMove) -> bool:
-        """Notes a move of a line of help play by its word; returns whether it may stand there."""
-        known = self._help.known[place]
-        is_last = place == len(self._help.known) - 1
-        step = step_of(move)
-        if step is None or self._has_reached(move) is not is_last:
-            return False
-        if len(known) >= _MOST_KNOWN:
-            known.clear()
-        known[word] = KnownMove(move, step)
-        return True
-
-    def _has_reached(self, move: PlayedMove) -> Optional[bool]:
-        """Returns whether a move reaches the goal; None if it has a sign that it can't have here."""
-        if move.rebirth is not None and self._condition is not Condition.CIRCE:
-            return None
-        if move.mark in (None, Mark.CHECK):
-            return False
-        is_goal = move.mark is not None and move.mark.value == self._stipulation.goal.value
-        is_of_last_side = move.side is self._stipulation.last_side
-        return True if is_goal and is_of_last_side else None
 
     def _begin(self, stipulation: Stipulation, condition: Optional[Condition]) -> None:
         """Sets the state that takes the first line after the head."""
@@ -479,10 +411,10 @@ class ReportReader:
     def _phase(self, kind: items.PhaseKind) -> Sequence[events.Event]:
         self._kind, self._count = kind, 0
         if self._stipulation.play is Play.HELP:
-            asked = self._asked
-            if asked not in self._known_moves:
-                self._known_moves[asked] = [{} for _ in range(self._halves)]
-            self._help.begin(self._known_moves[asked], self._board)
+            form = self._form
+            if form not in self._known_moves:
+                self._known_moves[form] = [KnownMoves(form, place) for place in range(form.halves)]
+            self._help.begin(self._known_moves[form], self._board)
         else:
             self._tree.begin(self._board)
             self._choose_known()
@@ -490,13 +422,19 @@ class ReportReader:
         return (events.PhaseEvent(self._number, kind),)
 
     @property
-    def _asked(self) -> _Asked:
-        is_circe = self._condition is Condition.CIRCE
-        return self._stipulation, is_circe, self._kind, self._detail is Detail.FIRST_MOVES
+    def _form(self) -> Form:
+        first_half = self._stipulation.first_half + (1 if self._kind is items.PhaseKind.SET else 0)
+        is_circe, is_cut = self._condition is Condition.CIRCE, self._detail is Detail.FIRST_MOVES
+        return Form(self._stipulation, is_circe, first_half, self._first_levels, is_cut)
 
     def _choose_known(self) -> None:
         """Takes up what is known of lines of battle play of this phase."""
-        self._known_here = self._known.setdefault(self._asked, {})
+        form = self._form
+        if sum(map(len, self._known.values())) >= MOST_KNOWN:
+            self._known.clear()
+        if form not in self._known:
+            self._known[form] = KnownNodes(form)
+        self._known_here = self._known[form]
 
     def _first_solution(self, line: bytes) -> Sequence[events.Event]:
         if line != lines.NOT_POSSIBLE or self._kind is not items.PhaseKind.SET:
@@ -535,95 +473,22 @@ class ReportReader:
         if count != self._count:
             raise self.refused(f"'solutions: {self._count}', the number of solutions above", line)
 
-    @property
-    def _first_half(self) -> int:
-        return self._stipulation.first_half + (1 if self._kind is items.PhaseKind.SET else 0)
-
-    @property
-    def _halves(self) -> int:
-        """How many half-moves a line of help play has."""
-        return self._stipulation.first_half + self._stipulation.half_moves - self._first_half
-
     def _help_line(self, line: bytes) -> items.HelpLine:
         text = line.decode("latin-1")
         try:
-            moves = self._help.moves_of(text) or self._moves_after_noting(text)
-            if moves is None:
-                moves = self._help.moves_of_words(self._words_of(text))
+            return items.HelpLine(text, self._help.moves_of(text))
         except LineRefused as refused:
             raise self.refused(str(refused), line) from None
-        return items.HelpLine(text, moves)
-
-    def _words_of(self, text: str) -> list[str]:
-        """Returns the moves of a line of help play with their numbers, and notes them; a move may have two
-        words.
-        """
-        place = 0
-        words: list[str] = []
-        for half in range(self._first_half, self._first_half + self._halves):
-            gap = " " if words else ""
-            lead = gap + self._lead(half)
-            if not text.startswith(lead, place):
-                break
-            found = read_step(text, place + len(lead), half, self._stipulation.side(half))
-            word = "" if found is None else text[place + len(gap) : found[1]]
-            if found is None or not self._is_noted(len(words), word, found[0]):
-                break
-            words.append(word)
-            place = found[1]
-        if place != len(text) or not words or len(words) != self._halves:
-            raise LineRefused(f"a line of {self._halves} half-moves")
-        return words
-
-    @property
-    def _deepest_level(self) -> int:
-        """The level of the last half-move of battle play."""
-        last = self._stipulation.first_half + min(self._stipulation.half_moves, MOST_LEVELS) - 1
-        return last - self._first_half
 
     @property
     def _first_levels(self) -> int:
         """The deepest level that is shown without Variation."""
         return 1 if self._kind is items.PhaseKind.SET else 0
 
-    def _known_node(self, line: bytes) -> Optional[KnownNode]:
-        """Returns what a line of battle play says; None for another line."""
-        node = self._known_here.get(line)
-        if node is None:
-            node = self._read_node(line)
-            if node is not None:
-                if self._known_count >= _MOST_KNOWN:
-                    self._known.clear()
-                    self._known_count = 0
-                    self._choose_known()
-                self._known_here[line] = node
-                self._known_count += 1
-        return node
-
-    def _read_node(self, line: bytes) -> Optional[KnownNode]:
-        """Reads a line of battle play; returns None for another line."""
-        text = line.decode("latin-1")
-        level = (len(text) - len(text.lstrip(" "))) // 2
-        half = self._first_half + level
-        lead = " " * (2 * level) + prefix(half)
-        move = whole_move(text, lead, half, self._stipulation.side(half))
-        step = None if move is None else step_of(move)
-        has_reached = None if move is None else self._has_reached(move)
-        if move is None or step is None or has_reached is None or level > self._deepest_level:
-            return None
-        if has_reached:
-            return KnownNode(level, text, move, 0, level, [0], step)
-        if self._detail is Detail.FIRST_MOVES and level >= self._first_levels:
-            is_known = level == self._first_levels < self._deepest_level
-            return KnownNode(level, text, move, 0, level, [0], step) if is_known else None
-        if level == self._deepest_level:
-            return None
-        return KnownNode(level, text, move, level + 1, level + 1, [0], step)
-
     def _node(self, line: bytes, place: events.Place) -> events.NodeEvent:
         """Returns the node of a line."""
         self._decide(line)
-        node = self._known_node(line)
+        node = self._known_here[line]
         expected = "a move, or the number of solutions" if node is None else self._tree.refusal(node)
         if node is None or expected is not None:
             raise self.refused(expected or "", line)
@@ -632,12 +497,6 @@ class ReportReader:
         level, text, move = node[:3]
         self._count += level == 0
         return events.NodeEvent(self._number, self._kind, place, level, text[2 * level :], move)
-
-
-def whole_move(text: str, lead: str, half: int, side: Colour) -> Optional[PlayedMove]:
-    """Returns the move that makes up a line after its lead; None for another line."""
-    found = read_step(text, len(lead), half, side) if text.startswith(lead) else None
-    return None if found is None or found[1] != len(text) else found[0]
 
 
 def _has_few_kings(lines_of_ranks: bytes) -> bool:

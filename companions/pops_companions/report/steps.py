@@ -5,6 +5,7 @@ tries a move and one change plays it, whatever the move is.
 """
 
 from collections.abc import Iterable, Sequence
+from functools import lru_cache
 from typing import NamedTuple, Optional, Union
 
 from pops_companions.chess.attacks import squares_between
@@ -20,7 +21,7 @@ _EMPTY = ord(".")
 # The squares between king and rook, by their files, then the files that the rook leaves and comes to.
 _CASTLINGS = {Castling.SHORT: ((6, 7), 8, 6), Castling.LONG: ((2, 3, 4), 1, 4)}
 _PROMOTION_RANKS = (1, 8)
-# The memory for known steps is bounded.
+# The memory for known moves and steps is bounded.
 _MOST_KNOWN = 1 << 14
 
 
@@ -122,10 +123,18 @@ def step_of(move: PlayedMove) -> Optional[Step]:
     return _KNOWN[key]
 
 
-def read_step(text: str, place: int, half: int, side: Colour) -> Optional[tuple[PlayedMove, int]]:
-    """Returns what `read_move` does; None also for a move that the man can't make."""
-    found = read_move(text, place, half, side)
-    return None if found is None or step_of(found[0]) is None else found
+def read_step(text: str, lead: str, half: int, side: Colour) -> Optional[tuple[PlayedMove, Step]]:
+    """Returns the move that makes up a text after its lead, with its step; None for another text, and
+    for a move that the man can't make.
+    """
+    return _read_word(text[len(lead) :], half, side) if text.startswith(lead) else None
+
+
+@lru_cache(maxsize=_MOST_KNOWN)
+def _read_word(word: str, half: int, side: Colour) -> Optional[tuple[PlayedMove, Step]]:
+    found = read_move(word, 0, half, side)
+    step = None if found is None or found[1] != len(word) else step_of(found[0])
+    return None if found is None or step is None else (found[0], step)
 
 
 def _step(move: PlayedMove) -> Optional[Step]:

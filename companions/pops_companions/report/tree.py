@@ -2,13 +2,13 @@
 
 from dataclasses import dataclass, field
 from enum import Enum
-from typing import NamedTuple, Optional
+from typing import Optional
 
-from pops_companions.report.moves import PlayedMove
+from pops_companions.report.known_lines import KnownNode
 from pops_companions.report.steps import Step
 
 # More than the half-moves of any stipulation that pops takes.
-MOST_LEVELS = 64
+_MOST_LEVELS = 64
 
 
 class Detail(Enum):
@@ -23,25 +23,6 @@ class Detail(Enum):
     __hash__ = object.__hash__
 
 
-class KnownNode(NamedTuple):
-    """What a line of a tree says: its level, the whole line, its move, which levels the next move may
-    have, and what the move needs and changes on the board.
-
-    `parent` has the number of the move below which the line was seen last.
-    """
-
-    level: int
-    text: str
-    move: PlayedMove
-    least: int
-    most: int
-    parent: list[int]
-    step: Step
-
-
-KnownNodes = dict[bytes, KnownNode]
-
-
 @dataclass
 class TreeState:
     """Where in a tree the reading is: the levels that the next move may have, for each level the board
@@ -53,14 +34,14 @@ class TreeState:
     serial: int = 0
     # None where no board is printed.
     boards: Optional[list[int]] = None
-    parents: list[int] = field(default_factory=lambda: [0] * (MOST_LEVELS + 2))
+    parents: list[int] = field(default_factory=lambda: [0] * (_MOST_LEVELS + 2))
 
     def begin(self, board: Optional[int]) -> None:
         """Begins a phase on a board."""
         self.serial += 1
         self.least = self.most = 0
         self.parents[0] = self.serial
-        self.boards = None if board is None else [board] * (MOST_LEVELS + 2)
+        self.boards = None if board is None else [board] * (_MOST_LEVELS + 2)
 
     def begin_below(self, level: int) -> None:
         """Goes on with moves of a level that follow the first move of the phase, whose level is 0."""

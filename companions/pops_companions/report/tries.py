@@ -12,8 +12,8 @@ from pops_companions.chess.stipulation import Condition, Goal, Play, Stipulation
 from pops_companions.report import events, items, lines
 from pops_companions.report.item_builder import GrowingPhase, total_text
 from pops_companions.report.moves import Mark, PlayedMove, prefix
-from pops_companions.report.reader import Allowed, ReportReader, State, read_events, whole_move
-from pops_companions.report.steps import step_of
+from pops_companions.report.reader import Allowed, ReportReader, State, read_events
+from pops_companions.report.steps import Step, read_step
 
 NO_TRIES = "no tries in help play"
 _TRIES = "tries"
@@ -126,9 +126,9 @@ class TriesReader(ReportReader):
         if not line[:1].isdigit():
             return self._total(line)
         text, sign = line.decode("latin-1"), self._sign.value
-        move = self._signed_move(text, self._stipulation.first_half, prefix(1), sign)
+        move, step = self._signed_move(text, self._stipulation.first_half, prefix(1), sign)
         self._tree.begin(self._board)
-        self._has_ended = self._play_move(line, move)
+        self._has_ended = self._play_move(line, move, step)
         is_try = self._sign is events.FirstMoveKind.TRY
         is_last = self._stipulation.half_moves == 1
         if self._has_ended and is_try or is_last and not (self._has_ended or is_try):
@@ -140,19 +140,19 @@ class TriesReader(ReportReader):
         self._state = self._first_move if self._has_ended else self._menace
         return (events.FirstMoveEvent(self._number, self._sign, text, move),)
 
-    def _signed_move(self, text: str, half: int, lead: str, sign: str) -> PlayedMove:
+    def _signed_move(self, text: str, half: int, lead: str, sign: str) -> tuple[PlayedMove, Step]:
         """Returns the move of a line that has this sign after it."""
-        move = None
+        found = None
         if text.endswith(sign):
-            move = whole_move(text[: -len(sign)], lead, half, self._stipulation.side(half))
-        if move is None:
+            found = read_step(text[: -len(sign)], lead, half, self._stipulation.side(half))
+        if found is None:
             raise self.refused(f"a move with {sign}", text.encode("latin-1"))
-        return move
+        return found
 
-    def _play_move(self, line: bytes, move: PlayedMove) -> bool:
+    def _play_move(self, line: bytes, move: PlayedMove, step: Step) -> bool:
         """Plays a first move; returns whether it reaches the goal."""
-        step, has_reached = step_of(move), self._has_reached(move)
-        if step is None or has_reached is None or not self._tree.plays(step, 0):
+        has_reached = self._form.has_reached(move)
+        if has_reached is None or not self._tree.plays(step, 0):
             raise self.refused("a move that the men on the board can make", line)
         return has_reached
 
@@ -204,9 +204,8 @@ class TriesReader(ReportReader):
 
     def _first_refutation(self, line: bytes) -> Sequence[events.Event]:
         text, lead = line.decode("latin-1"), f"    {prefix(2)}"
-        move = self._signed_move(text, self._stipulation.first_half + 1, lead, "!")
-        step = step_of(move)
-        if step is None or not self._may_refute(move) or not self._tree.is_possible(step, 1):
+        move, step = self._signed_move(text, self._stipulation.first_half + 1, lead, "!")
+        if not self._may_refute(move) or not self._tree.is_possible(step, 1):
             raise self.refused("a reply that the men on the board can make", line)
         if not _added(self._replies, move):
             raise self.refused("another reply than the ones before", line)

@@ -59,11 +59,6 @@ class Beside:
                 except AnswersError as error:
                     self._refuse_answers(error)
 
-    @property
-    def is_alone(self) -> bool:
-        """Whether the report is all that is known."""
-        return self._input_file is None and self._answers is None and not self._tries
-
     def judgements(self, items: Iterator[AnyItem]) -> Iterator[Judgement]:
         """Judges the items of a report, and adds the problems that it lacks."""
         course = Course()

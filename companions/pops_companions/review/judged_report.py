@@ -12,10 +12,9 @@ from pops_companions.report.items import AnyItem
 from pops_companions.report.reader import pieces_of, read_unfinished_report
 from pops_companions.report.source import NamedText
 from pops_companions.review.beside import Beside, Course
-from pops_companions.review.in_pieces import Cutter, Piece, Place, is_large
+from pops_companions.review.in_pieces import Cutter, Piece, is_large
 from pops_companions.review.judged_groups import JudgedGroup, judged_groups
 from pops_companions.review.judgement_text import Tally
-from pops_companions.review.like_problems import LikeProblems
 from pops_companions.review.judging import Judgement
 
 # More take more memory, and one process can't keep them busy.
@@ -23,12 +22,11 @@ _MOST_COPIES = 8
 
 
 class Form(NamedTuple):
-    """How the problems of a report are grouped and shown; `is_plain` if as lines of text."""
+    """How the problems of a report are grouped and shown."""
 
     encoding: str
     apart: bool
     text_of: Callable[[JudgedGroup], str]
-    is_plain: bool
 
 
 class _Known(NamedTuple):
@@ -51,9 +49,6 @@ class JudgedReport:
         self._form = form
         self._tally = tally
         self._course = Course()
-        self._like = None
-        if form.is_plain and beside.is_alone:
-            self._like = LikeProblems(form.encoding, form.apart)
 
     def groups_of(self, items: Iterator[AnyItem]) -> Iterator[JudgedGroup]:
         """Yields the problems of items that are read elsewhere."""
@@ -115,39 +110,13 @@ class JudgedReport:
         piece = Piece.of_data(data)
         self._course, self._tally = Course(piece.place.last), Tally()
         self._report.undecodable.clear()
-        texts = list(self._texts_of_piece(piece))
+        items = self._items(piece.chunks(), piece.place.line)
+        judgements = self._beside.judgements_of_piece(items, self._course)
+        texts = list(self.texts_of(self._counted(judgements)))
         held = 0 if self._form.apart else len(texts[-1])
         course, counts = self._course, self._tally.counts
         known = _Known(course.last, course.lacking, counts, self._report.undecodable, held)
         return b"".join([json.dumps(known).encode("ascii"), b"\n", *texts])
-
-    def _texts_of_piece(self, piece: Piece) -> Iterator[bytes]:
-        """Yields the texts of a piece: of problems in turn that show what others showed, then of others in
-        turn.
-        """
-        text, at, line = piece.text, 0, piece.place.line
-        while at < len(text):
-            start = at
-            if self._like is not None:
-                like = self._like.taken(text, at, self._course.last)
-                at, self._course.last = like.end, like.last
-                self._tally.add(like.verdicts)
-                self._report.undecodable.extend(like.undecodable)
-                yield from like.texts
-            end = len(text) if self._like is None else self._like.end_of_others(text, at)
-            line += text.count(b"\n", start, at)
-            others = Piece(Place(piece.place.offset + at, line, self._course.last), text[at:end])
-            yield from self._texts_of_others(others)
-            line += text.count(b"\n", at, end)
-            at = end
-
-    def _texts_of_others(self, piece: Piece) -> Iterator[bytes]:
-        items = self._items(piece.chunks(), piece.place.line)
-        for one in self._counted(self._beside.judgements_of_piece(items, self._course)):
-            text = self._form.text_of(one)
-            if self._like is not None:
-                self._like.note(one, text)
-            yield text.encode("utf-8", "replace")
 
     def _another(self) -> "JudgedReport":
         """Returns another reading of the report, which knows nothing of this one."""

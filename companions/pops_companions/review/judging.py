@@ -203,7 +203,7 @@ class KeptJudgements:
 
     def judged(self, item: AnyItem, wanted: int) -> Judgement:
         """Returns what `judged` does without short solutions and tries."""
-        if not isinstance(item, SoundItem) or not is_judged_by_play(item):
+        if not isinstance(item, SoundItem) or not _is_judged_by_play(item):
             return judged(item, wanted, None)
         key = id(item.phases), wanted
         kept = self._kept.get(key)
@@ -216,7 +216,7 @@ class KeptJudgements:
         return judgement
 
 
-def is_judged_by_play(item: SoundItem) -> bool:
+def _is_judged_by_play(item: SoundItem) -> bool:
     """Returns whether the judgement depends on few lines of play alone: on no man, and no mate of help
     play.
     """
@@ -224,11 +224,7 @@ def is_judged_by_play(item: SoundItem) -> bool:
         return False
     if sum([len(phase.lines) for phase in item.phases]) > _MOST_LINES:
         return False
-    return item.board is None or has_usual_men(item.board.letters)
-
-
-def has_usual_men(letters: str) -> bool:
-    """Returns whether nothing is to be said of the men on a printed board."""
+    letters = "" if item.board is None else item.board.letters
     return surely_begun(letters) and not _has_nightriders_alone(letters)
 
 
