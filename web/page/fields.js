@@ -6,7 +6,7 @@ import { partsOfStipulation, stipulationOf } from '../play.js';
 import { CONDITIONS, fieldsOf, FLAGS, isShort, valueOf, VALUES, withField } from '../text.js';
 import { say } from '../words.js';
 import { endTyping, setText } from './editing.js';
-import { blockNow, textNow } from './state.js';
+import { blockNow, state, textNow } from './state.js';
 
 const FIELDS = [
   ['Title', 'title'], ['Author', 'author'], ['Origin', 'origin'], ['Stipulation', 'stipulation'], ['Condition', 'condition'],
@@ -67,8 +67,11 @@ function valueIn(name) {
  */
 export function fieldChanged(name) {
   endTyping();
-  const block = blockNow();
-  if (block) setText(withField(textNow(), block.from, name, valueIn(name)));
+  const value = valueIn(name);
+  state.whenRead(() => {
+    const block = blockNow();
+    if (block) setText(withField(textNow(), block.from, name, value));
+  });
 }
 
 /** Makes the rows of fields: flags in one, short values in another, and each other field by itself. */
