@@ -62,7 +62,7 @@ function choosePromotion(from, to) {
   const [colour] = manAt(board.men, from);
   const fairy = 'GN'.split('').filter(kind => [...board.men.values()].some(man => man[1] === kind));
   element('promotion').replaceChildren(...['Q', 'R', 'B', 'S', ...fairy].map(kind => {
-    const made = makeButton(sayMan(colour + kind), () => playMove(from, to, kind));
+    const made = makeButton(sayMan(colour + kind), () => playMove(from, to, kind), '');
     made.append(drawn(colour + kind));
     return made;
   }));

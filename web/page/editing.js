@@ -6,7 +6,7 @@ import { impossibleCounts } from '../items.js';
 import { changed, countOf, exchanged, readFen } from '../position.js';
 import { inSlices, LONG_TEXT } from '../slices.js';
 import {
-  blockAt, blocksOf, cleared, fenOfBlock, lineOf, menOf, readText, tailOf, withFen, withLine, withMen, withNewProblem, withTail,
+  blockAt, blocksOf, cleared, fenOfBlock, lineOf, menOf, tailOf, withFen, withLine, withMen, withNewProblem, withTail,
 } from '../text.js';
 import { say } from '../words.js';
 import { fitPart, followCaret, scrollToLine, select, selectionNow, showText } from './area.js';
@@ -58,7 +58,7 @@ export function placed() {
   endPlacing();
   followCaret();
   const text = textNow();
-  endPlacing = inSlices(text.length, readText(text), () => showPlaced(text));
+  endPlacing = inSlices(text.length, blocksOf.steps(text), () => showPlaced(text));
 }
 
 /** @param {string} text the text at the click or key */

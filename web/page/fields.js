@@ -1,6 +1,6 @@
 // @ts-check
 // The fields of the problem on the board: its names, its stipulation, its condition and its options.
-import { element, LONGEST_SHOWN, shortened } from '../elements.js';
+import { element, LONGEST_SHOWN, madeWith, shortened } from '../elements.js';
 import { sayCondition } from '../names.js';
 import { partsOfStipulation, stipulationOf } from '../play.js';
 import { CONDITIONS, fieldsOf, FLAGS, isShort, valueOf, VALUES, withField } from '../text.js';
@@ -87,10 +87,9 @@ function fieldRows() {
 function builtField(name, word) {
   const isFlag = FLAGS.includes(name);
   const label = document.createElement('label');
-  const said = document.createElement('span');
+  const said = madeWith('span', say(word));
   const input = document.createElement(['Condition', 'Stipulation'].includes(name) ? 'select' : 'input');
   input.id = `field-${name}`;
-  said.textContent = say(word);
   if (name === 'Condition') input.append(new Option(say('noCondition'), ''), ...CONDITIONS.map(it => new Option(sayCondition(it), it)));
   else if (name !== 'Stipulation') /** @type {HTMLInputElement} */ (input).type = isFlag ? 'checkbox' : 'text';
   input.onchange = () => fieldChanged(name);

@@ -5,7 +5,7 @@ import { after } from '../position.js';
 import { ReportReading } from '../report.js';
 import { atOnce, inSlices, LONG_TEXT } from '../slices.js';
 import { Steps } from '../store.js';
-import { blocksOf, posedAlike, readProblem, readText } from '../text.js';
+import { blocksOf, posedAlike, readProblem } from '../text.js';
 import { wholeText } from './area.js';
 
 class PageState {
@@ -256,7 +256,7 @@ class PageState {
    * @returns {Generator<void, void>}
    */
   *following(text) {
-    yield* readText(text);
+    yield* blocksOf.steps(text);
     const block = blockNow();
     if (block) yield* readProblem(text, block);
     yield* this.compare();
