@@ -98,7 +98,7 @@ export class Board {
 
   /** @param {string} tool @param {string} label @param {string} [sign] */
   addTool(tool, label, sign = '') {
-    const made = makeButton(label, () => this.choose(tool));
+    const made = makeButton(label, () => this.choose(tool), '');
     made.dataset.tool = tool;
     made.append(sign || drawn(tool));
     if (!sign) made.onpointerdown = event => this.beginDrag({ man: tool, square: null }, event);

@@ -161,8 +161,7 @@ function showTwins(twins) {
   const now = blockNow()?.number;
   element('twins').hidden = !twins.length;
   const buttons = twins.map(({ number, label, change }) => {
-    const made = makeButton([label.text || say('twin'), change].join(' '), () => goToProblem(number));
-    made.textContent = label.text || say('twin');
+    const made = makeButton([label.text || say('twin'), change].join(' '), () => goToProblem(number), label.text || say('twin'));
     made.setAttribute('aria-pressed', String(number === now));
     return made;
   });

@@ -36,9 +36,14 @@ export function drawn(man) {
   return drawing;
 }
 
-/** @param {string} label @param {() => void} act */
-export function makeButton(label, act) {
-  const made = document.createElement('button');
+/**
+ * Makes a button.
+ * @param {string} label its name
+ * @param {() => void} act
+ * @param {string} [said] its text, if that isn't its name
+ */
+export function makeButton(label, act, said = label) {
+  const made = /** @type {HTMLButtonElement} */ (madeWith('button', said));
   made.type = 'button';
   made.setAttribute('aria-label', label);
   made.title = label;

@@ -2,8 +2,7 @@
 // Explains and mends the faults of a text, as pops-explain does: by its own code, translated (web/from_python.py), which counts bytes.
 import { UTF8 } from './codecs.js';
 import { companions } from './out/companions.js';
-import { atOnce } from './slices.js';
-import { lineAt, lineOf, problemsOf, readNumbered, remembered, wordsOf } from './text.js';
+import { lineAt, lineOf, problemsOf, remembered, wordsOf } from './text.js';
 
 const LONGEST_LINE = 160;
 const ROOM_BEFORE = 60;
@@ -21,7 +20,7 @@ const ASKS_FOR_TRIES = /shows? (?:tries with|threats)/;
 const OF_TWO_BYTES = /^(?:\xff\xfe|\xfe\xff)[\0-\xff]*$/;
 /** @param {string} text @returns {string} */
 const bytesOf = text => (OF_TWO_BYTES.test(text) ? text : companions.encoded(text));
-const allBytesOf = remembered(bytesOf);
+const allBytesOf = remembered(function* (text) { return bytesOf(text); });
 /** @param {string} bytes @returns {string} */
 const textOf = bytes => companions.decoded(bytes);
 
@@ -95,7 +94,7 @@ function spanIn(text, bytes, { start, stop }) {
  * @returns {Generator<void, Explanation | null>}
  */
 export function* explainFault(text, { number, fault, place: known }) {
-  yield* readNumbered(text);
+  yield* problemsOf.steps(text);
   const { from, to, alone, place, start } = aloneOf(text, number);
   const isLong = alone.length > MOST_AT_ONCE;
   const bytes = allBytesOf(alone);
@@ -110,13 +109,6 @@ export function* explainFault(text, { number, fault, place: known }) {
   const said = explanationOf(alone, read);
   return { text: said.text, marks: said.marks.map(mark => ({ from: mark.from + start, to: mark.to + start })) };
 }
-
-/**
- * Explains the fault of a problem of a text at once.
- * @param {string} text
- * @param {{ number: number, fault: { line: number, number: number } }} item
- */
-export const explain = (text, item) => atOnce(explainFault(text, item));
 
 /**
  * Returns a problem as a text of its own, up to a limit, with the word that closes the problem before it: where its words begin and end in
@@ -217,10 +209,3 @@ export function* mendProblem(text, number) {
   const whole = text.slice(0, from) + made.slice(from - start) + text.slice(to);
   return { text: whole, asksForTries, refutations: asksForTries ? refutationsIn(alone) : 0, line: lineOf(whole, same + start) };
 }
-
-/**
- * Mends the faults of a problem at once.
- * @param {string} text
- * @param {number} number
- */
-export const mendedProblem = (text, number) => atOnce(mendProblem(text, number));

@@ -45,7 +45,6 @@ export const ownAdvice = advice => advice
 function mendingBox(made, take) {
   const box = document.createElement('div');
   const button = makeButton(say('correct'), () => take(made));
-  button.textContent = say('correct');
   const line = drawnLine(bareLine(made.text, made.line));
   line.className = 'corrected';
   box.append(line, button);
@@ -63,9 +62,7 @@ function mendingBox(made, take) {
  */
 export function faultBox(text, item, general, { goToLine, take }, work) {
   const { fault } = item;
-  const label = say('goToLine', fault);
-  const button = makeButton(label, () => goToLine(fault.line));
-  button.textContent = label;
+  const button = makeButton(say('goToLine', fault), () => goToLine(fault.line));
   const box = document.createElement('div');
   box.className = 'fault';
   box.append(madeWith('p', sayFault(fault)), button);

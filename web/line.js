@@ -39,7 +39,7 @@ function moveInDiagram(from, to) {
 }
 
 /** @param {Square} from @param {Square} to @param {string | null} promotion */
-function playMove(from, to, promotion) {
+const playMove = (from, to, promotion) => state.whenRead(() => {
   const block = blockNow();
   if (!block || !board.men.has(from)) return;
   const fields = fieldsOf(textNow(), block);
@@ -51,7 +51,7 @@ function playMove(from, to, promotion) {
   const played = moveBetween(board.men, { from, to, promotion, half, isCirce });
   tree.unmark();
   showPlace({ start, moves: [...moves, played], item: null });
-}
+});
 
 /**
  * Lets the user choose what a pawn becomes.
@@ -62,7 +62,7 @@ function choosePromotion(from, to) {
   const [colour] = manAt(board.men, from);
   const fairy = 'GN'.split('').filter(kind => [...board.men.values()].some(man => man[1] === kind));
   element('promotion').replaceChildren(...['Q', 'R', 'B', 'S', ...fairy].map(kind => {
-    const made = makeButton(sayMan(colour + kind), () => playMove(from, to, kind));
+    const made = makeButton(sayMan(colour + kind), () => playMove(from, to, kind), '');
     made.append(drawn(colour + kind));
     return made;
   }));

@@ -5,7 +5,6 @@ import { serveChores } from './chores.js';
 import { showContents } from './contents.js';
 import { element, makeButton, partText } from './elements.js';
 import { makeProblem, move, solveFromHere, togglePlaying } from './line.js';
-import { showAge } from './page/age.js';
 import { listenToArea, sayPart, showText } from './page/area.js';
 import {
   addProblem, change, changeBoard, fenWritten, goSteps, goToProblem, joinTail, keepText, numberWritten, placed, setText, showProblem,
@@ -17,7 +16,7 @@ import { listenToFiles } from './page/files.js';
 import { whenKept } from './page/keeping.js';
 import { forgetAll, showKept } from './page/kept.js';
 import { OUTS } from './page/outs.js';
-import { showMoreReport } from './page/reporting.js';
+import { showAge, showMoreReport } from './page/reporting.js';
 import { buildLive, liveChanged } from './page/live.js';
 import { loadEngine, showMost, showSaid, showSolve, solve, solveThis, stopSolving } from './page/solving.js';
 import { state, textNow } from './page/state.js';
@@ -44,9 +43,8 @@ function fillWords() {
 
 /** @param {string} row @param {string} name @param {string | null} sign @param {() => void} act */
 function addButton(row, name, sign, act) {
-  const made = makeButton(say(name), act);
+  const made = makeButton(say(name), act, sign ?? say(name));
   made.id = name;
-  made.textContent = sign ?? say(name);
   element(row).append(made);
 }
 

@@ -33,24 +33,22 @@ const commandOf = word => COMMANDS.find(command => isShort(word, command));
 const isTextCommand = command => command !== undefined && TEXT_LINES.includes(command);
 
 /**
- * Makes a function that keeps its last result: the page reads one text many times. `take` keeps a result that was made elsewhere.
+ * Makes a function that reads a text and keeps its last result: the page reads one text many times. `steps` reads step by step; `knows` says
+ * whether a text is the one that was read last.
  * @template T
- * @param {(text: string) => T} make
- * @returns {((text: string) => T) & { knows: (text: string) => boolean, take: (text: string, made: T) => void }}
+ * @param {(text: string) => Generator<void, T>} read
  */
-export function remembered(make) {
+export function remembered(read) {
   /** @type {{ text: string, made: T } | null} */
   let last = null;
-  const of = (/** @type {string} */ text) => {
-    if (last?.text !== text) last = { text, made: make(text) };
+  /** @param {string} text @returns {Generator<void, T>} */
+  function* steps(text) {
+    if (last?.text !== text) last = { text, made: yield* read(text) };
     // (a string is compared with itself at once, with an equal one letter by letter)
     last.text = text;
     return last.made;
-  };
-  return Object.assign(of, {
-    knows: (/** @type {string} */ text) => last?.text === text,
-    take: (/** @type {string} */ text, /** @type {T} */ made) => { last = { text, made }; },
-  });
+  }
+  return Object.assign((/** @type {string} */ text) => atOnce(steps(text)), { steps, knows: (/** @type {string} */ text) => last?.text === text });
 }
 
 // The words of one step of reading.
@@ -100,7 +98,7 @@ function* readWords(text, isLast = () => false) {
 }
 
 /** Reads the words of a text with their places; the rest of a text command's line is no word. */
-export const wordsOf = remembered(text => atOnce(readWords(text)));
+export const wordsOf = remembered(text => readWords(text));
 
 /** @param {Token} word */
 const opensText = word => word.command === 'beginproblem';
@@ -113,10 +111,10 @@ export const hasProblem = text => atOnce(readWords(text.slice(0, LONG_TEXT), ope
 /**
  * Reads the problems of a text step by step.
  * @param {string} text
- * @param {Token[]} words its words
  * @returns {Generator<void, Block[]>}
  */
-function* readBlocks(text, words) {
+function* readBlocks(text) {
+  const words = yield* wordsOf.steps(text);
   /** @type {Block[]} */
   const blocks = [];
   /** @type {Block | null} */
@@ -137,18 +135,7 @@ function* readBlocks(text, words) {
 }
 
 /** Returns the problems of a text: the words of each, between its opening and its closing word. */
-export const blocksOf = remembered(text => atOnce(readBlocks(text, wordsOf(text))));
-
-/**
- * Reads a text step by step; then its words and problems are known.
- * @param {string} text
- * @returns {Generator<void, void>}
- */
-export function* readText(text) {
-  if (blocksOf.knows(text)) return;
-  wordsOf.take(text, yield* readWords(text));
-  blocksOf.take(text, yield* readBlocks(text, wordsOf(text)));
-}
+export const blocksOf = remembered(readBlocks);
 
 /**
  * Finds step by step whether two problems pose the same: whether their words are the same without text lines, in small letters.
@@ -680,7 +667,7 @@ function bodiesOf(text) {
 }
 
 // Where each line begins.
-const startsOf = remembered(text => {
+const startsOf = remembered(function* (text) {
   const starts = [0];
   for (let end = text.indexOf('\n'); end >= 0; end = text.indexOf('\n', end + 1)) starts.push(end + 1);
   return starts;
@@ -693,13 +680,23 @@ const startsOf = remembered(text => {
  */
 export function lineOf(text, place) {
   const starts = startsOf(text);
-  let [line, after] = [1, starts.length + 1];
-  while (line + 1 < after) {
-    const middle = (line + after) >> 1;
-    if (starts[middle - 1] <= place) line = middle;
-    else after = middle;
+  return lastOf(1, starts.length + 1, line => starts[line - 1] <= place);
+}
+
+/**
+ * Returns the last of some numbers of which something holds, as of all before it; the first one if it holds of none.
+ * @param {number} first
+ * @param {number} after
+ * @param {(number: number, held: number) => boolean} holds receives also a number before it of which it holds
+ */
+export function lastOf(first, after, holds) {
+  let [last, end] = [first, after];
+  while (last + 1 < end) {
+    const middle = (last + end) >> 1;
+    if (holds(middle, last)) last = middle;
+    else end = middle;
   }
-  return line;
+  return last;
 }
 
 /**
@@ -715,11 +712,12 @@ export function lineAt(text, line) {
 }
 
 /**
- * Reads the problems of a text as pops numbers them, step by step: the words and text lines of each, with the word that ends it.
- * @param {Token[]} words the words of the text
+ * Reads the problems of a text as pops numbers them, step by step.
+ * @param {string} text
  * @returns {Generator<void, ProblemWords[]>}
  */
-function* readProblems(words) {
+function* readProblems(text) {
+  const words = yield* wordsOf.steps(text);
   /** @type {ProblemWords[]} */
   const problems = [{ tokens: [], isClosed: false }];
   for (let at = 0; at < words.length; at++) {
@@ -736,13 +734,4 @@ function* readProblems(words) {
 }
 
 /** Returns the problems of a text as pops numbers them: the words and text lines of each, with the word that ends it. */
-export const problemsOf = remembered(text => atOnce(readProblems(wordsOf(text))));
-
-/**
- * Reads the problems of a text step by step, as pops numbers them; then they are known.
- * @param {string} text
- * @returns {Generator<void, void>}
- */
-export function* readNumbered(text) {
-  if (!problemsOf.knows(text)) problemsOf.take(text, yield* readProblems(wordsOf(text)));
-}
+export const problemsOf = remembered(readProblems);

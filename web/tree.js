@@ -189,11 +189,8 @@ export class Tree {
       filling.most += ROWS_AT_ONCE;
       this.refill(box);
     };
-    const left = say('more', { count: things.length - filling.drawn });
     filling.more = document.createElement(box.tagName === 'UL' ? 'li' : 'p');
-    const button = makeButton(left, () => box.drawMore());
-    button.textContent = left;
-    filling.more.append(button);
+    filling.more.append(makeButton(say('more', { count: things.length - filling.drawn }), () => box.drawMore()));
     box.append(filling.more);
   }
 
@@ -202,12 +199,12 @@ export class Tree {
     const box = /** @type {ItemBox} */ (document.createElement('section'));
     box.groups = [];
     box.head = document.createElement('h2');
-    box.age = this.line(say('oldItem'));
+    box.age = madeWith('p', say('oldItem'));
     box.compared = this.comparisonBox(box);
     box.append(box.head, box.age);
     this.markBox(box, item);
     if (item.fault) box.append(fault(/** @type {FaultyItem} */ (item)));
-    else if (item.isChecked) box.append(this.line(say('sound')));
+    else if (item.isChecked) box.append(madeWith('p', say('sound')));
     this.growItem(box, item);
     return box;
   }
@@ -279,7 +276,7 @@ export class Tree {
     }
     const scroll = document.createElement('div');
     scroll.append(table);
-    const left = made.left ? [this.line(say('comparedLeft', { count: made.left }))] : [];
+    const left = made.left ? [madeWith('p', say('comparedLeft', { count: made.left }))] : [];
     box.compared.replaceChildren(madeWith('summary', say('compared')), scroll, ...left);
   }
 
@@ -308,34 +305,24 @@ export class Tree {
     const made = madeWith(tag, rows.length ? '' : said.join(' '));
     made.className = isChanged ? 'changed' : '';
     made.append(...rows.map((row, at) => {
-      const button = makeButton(said[at] === '!' ? say('refutes', { move: labelOf(row.moves[0]) }) : said[at], () => this.go(row, 0));
+      const button = makeButton(said[at] === '!' ? say('refutes', { move: labelOf(row.moves[0]) }) : said[at], () => this.go(row, 0), said[at]);
       button.className = 'move';
-      button.textContent = said[at];
       return button;
     }));
     return made;
   }
 
-  /** @param {string} text */
-  line(text) {
-    const line = document.createElement('p');
-    line.textContent = text;
-    return line;
-  }
-
   /** @param {Phase} phase @param {SoundItem} item @param {any} box */
   drawnPhase(phase, item, box) {
-    const head = document.createElement('h3');
-    head.textContent = say(phase.kind);
     const list = madeList('ul');
     list.className = 'top';
     /** @type {Group} */
-    const group = { kind: phase.kind, item, men: this.start(item), rows: [], list, lines: 0, total: this.line('') };
+    const group = { kind: phase.kind, item, men: this.start(item), rows: [], list, lines: 0, total: madeWith('p', '') };
     this.groups.push(group);
     box.groups.push(group);
     this.fill(list, group.rows, row => this.drawnRow(row));
     this.growPhase(group, phase, item);
-    return [head, list, group.total];
+    return [madeWith('h3', say(phase.kind)), list, group.total];
   }
 
   /**
@@ -397,9 +384,8 @@ export class Tree {
   /** @param {TreeRow} row */
   drawnRow(row) {
     const line = document.createElement('li');
-    const turn = makeButton(say('openRow'), () => this.fold(row, !row.list || row.list.hidden));
+    const turn = makeButton(say('openRow'), () => this.fold(row, !row.list || row.list.hidden), '▸');
     turn.className = row.hasBelow ? 'turn' : 'turn none';
-    turn.textContent = '▸';
     turn.tabIndex = row.hasBelow ? 0 : -1;
     turn.setAttribute('aria-expanded', 'false');
     row.turn = turn;

@@ -15,7 +15,7 @@ const FEW = 100000;
 fill({ ...sharedParts(), example: TEXT, 'fault-words': '{}', engine: 'AGFzbQEAAAA=' });
 const { element } = await import('../../web/elements.js');
 const { fitPart, followCaret, select, selectionNow, showText, wholeText } = await import('../../web/page/area.js');
-const { goSteps, goToProblem, setText } = await import('../../web/page/editing.js');
+const { changeBoard, goSteps, goToProblem, setText, takeFen, takeText } = await import('../../web/page/editing.js');
 const { drawnFault, faultWork, markFaults } = await import('../../web/page/faults.js');
 const { state, textNow } = await import('../../web/page/state.js');
 const { atOnce } = await import('../../web/slices.js');
@@ -28,6 +28,7 @@ const area = element('text');
 
 /** Begins with a text; its reading is ended. */
 function begin(text) {
+  state.beginSheet();
   setText('');
   blocksOf(text);
   setText(text);
@@ -257,4 +258,36 @@ test('reading: no step of showing a long problem looks at all of its words', () 
   assert.equal(Math.max(...most) > 1000 && Math.max(...most) < 5000, true);
   assert.equal(element('g6').dataset.man, 'wK');
   begin(TEXT);
+}));
+
+/** Begins with a long text that isn't read yet, does something, and returns whether this read it at once. */
+function readsAtOnce(act) {
+  begin(TEXT);
+  state.choose(1);
+  setText(LONG);
+  act();
+  return blocksOf.knows(LONG) || textNow() !== LONG;
+}
+
+test('reading: what is done with the board of a long text waits until the text is read, and comes in its order', () => withSlowClock(pass => {
+  for (const act of [() => changeBoard('right'), () => changeBoard('clear'), () => takeFen('8/8/8/8/8/8/8/K1k5'), () => goToProblem(2)]) {
+    assert.equal(readsAtOnce(act), false, String(act));
+  }
+  assert.equal(readsAtOnce(() => ['left', 'mirror', 'left'].forEach(changeBoard)), false);
+  goSteps(-1);
+  assert.equal(textNow(), LONG);
+  for (let times = 0; state.waiting.length || state.followed !== null; times++) {
+    assert.ok(times < 100000);
+    pass();
+  }
+  // (Kg6, Ra1 and Kg8 can't go to the left; mirrored they are Kb6, Rh1 and Kb8, and then go to the left; the last of these is undone)
+  assert.match(textNow().slice(0, 60), /White Kb6 Rh1 Black Kb8/);
+  begin(TEXT);
+}));
+
+test('reading: what waits for a long text isn\'t done with another one', () => withSlowClock(pass => {
+  assert.equal(readsAtOnce(() => changeBoard('right')), false);
+  takeText(TEXT);
+  for (let times = 0; times < 1000; times++) pass();
+  assert.equal(textNow(), TEXT);
 }));

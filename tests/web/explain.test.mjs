@@ -5,7 +5,7 @@ import { test } from 'node:test';
 import { makeDocument } from '../helpers/page_imports.mjs';
 
 makeDocument();
-const { explain, explainFault, explanationOf, faultsOf, markedLines, mendedProblem, placesOf, shown } = await import('../../web/explaining.js');
+const { explainFault, explanationOf, faultsOf, markedLines, mendProblem, placesOf, shown } = await import('../../web/explaining.js');
 const { ownAdvice } = await import('../../web/faults.js');
 const { companions } = await import('../../web/out/companions.js');
 const { DATA, sentence } = companions;
@@ -16,7 +16,10 @@ const { contentAt, listedNumbers, twinsOf } = await import('../../web/contents.j
 const { blocksOf, lineAt, lineOf, problemsOf } = await import('../../web/text.js');
 const { knownMen, knownSide } = await import('../../web/items.js');
 const { givenOf } = await import('../../web/outputs.js');
+const { atOnce } = await import('../../web/slices.js');
 
+const explain = (text, item) => atOnce(explainFault(text, item));
+const mendedProblem = (text, number) => atOnce(mendProblem(text, number));
 const posed = (...lines) => `BeginProblem\n${lines.join('\n')}\nEndProblem\n`;
 
 /** Returns the names of the squares of White's men that attack a square. */

@@ -4,7 +4,7 @@ import { readFileSync } from 'node:fs';
 import test from 'node:test';
 import { ReportReading, itemsOf } from '../../web/report.js';
 import { atOnce, inSlices, LONG_TEXT, Work } from '../../web/slices.js';
-import { blocksOf, readText, wordsOf } from '../../web/text.js';
+import { blocksOf, wordsOf } from '../../web/text.js';
 import { withSlowClock } from '../helpers/slow_clock.mjs';
 
 const turn = () => new Promise(go => { setTimeout(go, 1); });
@@ -99,7 +99,7 @@ test('reading: a text that is read step by step has the same words and problems'
   const [words, blocks] = [wordsOf(text), blocksOf(text)];
   wordsOf('');
   blocksOf('');
-  const steps = readText(text);
+  const steps = blocksOf.steps(text);
   while (!steps.next().done) assert.equal(blocksOf.knows(text), false);
   assert.equal(blocksOf.knows(text), true);
   assert.deepEqual([wordsOf(text), blocksOf(text)], [words, blocks]);

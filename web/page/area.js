@@ -2,7 +2,7 @@
 // The text area. It shows only a part of a long text, since browsers lay out all lines of an area again at each change. Places and lines
 // count in the whole text.
 import { element } from '../elements.js';
-import { lineAt, lineOf } from '../text.js';
+import { lastOf, lineAt, lineOf } from '../text.js';
 import { say } from '../words.js';
 
 // A text of more lines or letters is long.
@@ -77,15 +77,7 @@ function showPart(text, { from, to }) {
  * @param {string} one
  * @param {string} next
  */
-function sameLetters(one, next) {
-  let [same, other] = [0, Math.min(one.length, next.length) + 1];
-  while (same + 1 < other) {
-    const middle = (same + other) >> 1;
-    if (one.slice(same, middle) === next.slice(same, middle)) same = middle;
-    else other = middle;
-  }
-  return same;
-}
+const sameLetters = (one, next) => lastOf(0, Math.min(one.length, next.length) + 1, (to, from) => one.slice(from, to) === next.slice(from, to));
 
 /**
  * Returns how many letters two texts have in common at their end, after those at their beginning.
@@ -94,13 +86,9 @@ function sameLetters(one, next) {
  * @param {number} begun
  */
 function sameEnd(one, next, begun) {
-  let [same, other] = [0, Math.min(one.length, next.length) - begun + 1];
-  while (same + 1 < other) {
-    const middle = (same + other) >> 1;
-    if (one.slice(one.length - middle, one.length - same) === next.slice(next.length - middle, next.length - same)) same = middle;
-    else other = middle;
-  }
-  return same;
+  const isSame = (/** @type {number} */ to, /** @type {number} */ from) => (
+    one.slice(one.length - to, one.length - from) === next.slice(next.length - to, next.length - from));
+  return lastOf(0, Math.min(one.length, next.length) - begun + 1, isSame);
 }
 
 /**

@@ -6,7 +6,7 @@ import { impossibleCounts } from '../items.js';
 import { changed, countOf, exchanged, readFen } from '../position.js';
 import { inSlices, LONG_TEXT } from '../slices.js';
 import {
-  blockAt, blocksOf, cleared, fenOfBlock, lineOf, menOf, readText, tailOf, withFen, withLine, withMen, withNewProblem, withTail,
+  blockAt, blocksOf, cleared, fenOfBlock, lineOf, menOf, tailOf, withFen, withLine, withMen, withNewProblem, withTail,
 } from '../text.js';
 import { say } from '../words.js';
 import { fitPart, followCaret, scrollToLine, select, selectionNow, showText } from './area.js';
@@ -58,7 +58,7 @@ export function placed() {
   endPlacing();
   followCaret();
   const text = textNow();
-  endPlacing = inSlices(text.length, readText(text), () => showPlaced(text));
+  endPlacing = inSlices(text.length, blocksOf.steps(text), () => showPlaced(text));
 }
 
 /** @param {string} text the text at the click or key */
@@ -77,46 +77,57 @@ function showPlaced(text) {
 export function goToProblem(number) {
   endTyping();
   leave();
-  state.choose(number);
-  state.follow();
-  const block = blockNow();
-  if (!block) return;
-  select(block.from, block.from);
-  scrollToLine(lineOf(textNow(), block.from), 2);
+  state.whenRead(() => {
+    state.choose(number);
+    state.follow();
+    const block = blockNow();
+    if (!block) return;
+    select(block.from, block.from);
+    scrollToLine(lineOf(textNow(), block.from), 2);
+  });
 }
 
 /** Shows the problem whose number was written, or the nearest one. */
 export function numberWritten() {
   const field = element('problemNumber');
-  const { length } = blocksOf(textNow());
-  const number = Math.min(Math.max(Math.trunc(Number(field.value)) || state.number, 1), length);
-  field.value = String(number);
-  goToProblem(number);
+  const wanted = Math.max(Math.trunc(Number(field.value)) || state.number, 1);
+  state.whenRead(() => {
+    const number = Math.min(wanted, blocksOf(textNow()).length);
+    field.value = String(number);
+    goToProblem(number);
+  });
 }
 
 /**
- * Returns the problem on the board, after a new one was added to a text without problems.
- * @returns {Block}
+ * Leaves a solution that is stepped through, and does something with the problem on the board; a text without problems gets a new one.
+ * @param {(block: Block) => void} act
  */
-function blockMade() {
-  if (!blockNow()) showText(withNewProblem(textNow()));
-  return /** @type {Block} */ (blockNow());
-}
-
-/**
- * Changes the men of the problem on the board, after leaving a solution that is stepped through.
- * @param {(men: Men) => Men | null} changer
- */
-export function change(changer) {
+function withBlock(act) {
   endTyping();
   leave();
-  const block = blockMade();
+  const doAct = () => act(/** @type {Block} */ (blockNow()));
+  state.whenRead(() => {
+    if (blockNow()) {
+      doAct();
+      return;
+    }
+    showText(withNewProblem(textNow()));
+    state.waiting.unshift(doAct);
+    state.follow();
+  });
+}
+
+/**
+ * Changes the men of the problem on the board.
+ * @param {(men: Men) => Men | null} changer
+ */
+export const change = changer => withBlock(block => {
   const { men, unknown } = menOf(block);
   const changed = changer(men);
   if (unknown.length) noteUnknown(unknown[0]);
   else if (changed) setText(withMen(textNow(), block.from, changed));
   else note(say('leaves'));
-}
+});
 
 /** @param {string} word */
 function noteUnknown(word) {
@@ -129,30 +140,22 @@ function noteUnknown(word) {
 
 /** @param {string} name */
 export function changeBoard(name) {
-  if (name === 'clear') clearProblem();
+  if (name === 'clear') withBlock(({ from }) => setText(cleared(textNow(), from)));
   else change(name === 'exchange' ? exchanged : men => changed(men, name));
-}
-
-/** Removes all men, and what belongs to the problem that was: title, source, remarks, and the squares of options. */
-function clearProblem() {
-  endTyping();
-  leave();
-  const { from } = blockMade();
-  setText(cleared(textNow(), from));
 }
 
 /**
  * Undoes, or redoes, some steps.
  * @param {number} step
  */
-export function goSteps(step) {
+export const goSteps = step => state.inTurn(() => {
   endTyping();
   const text = state.steps.go(step);
   if (text === null) return;
   leave();
   showText(text);
   state.follow();
-}
+});
 
 /**
  * Replaces the position on the board by a position in FEN; returns false if the text isn't FEN.
@@ -161,11 +164,10 @@ export function goSteps(step) {
 export function takeFen(text) {
   const fen = readFen(text);
   if (!fen) return false;
-  endTyping();
-  leave();
-  const block = blockMade();
-  setText(withFen(textNow(), block.from, fen));
-  note(say('fenTaken') + (fen.turn === 'b' ? say('fenBlack') : ''));
+  withBlock(block => {
+    setText(withFen(textNow(), block.from, fen));
+    note(say('fenTaken') + (fen.turn === 'b' ? say('fenBlack') : ''));
+  });
   return true;
 }
 
@@ -309,13 +311,13 @@ function sayImported(made) {
   note([say(made.text ? 'imported' : 'importedNone'), ...(isAsked ? [say('triesOn')] : []), ...made.lost].join('. '));
 }
 
-export function addProblem() {
+export const addProblem = () => state.whenRead(() => {
   endTyping();
   const blocks = blocksOf(textNow());
   const text = blocks.length ? withLine(textNow(), blocks[blocks.length - 1], 'NextProblem\nStipulation #2') : withNewProblem(textNow());
   state.choose(blocks.length + 1);
   setText(text);
-}
+});
 
 /**
  * Says which counts of men no game can have.
@@ -363,10 +365,10 @@ export function showTail() {
 }
 
 /** Joins the text after EndProblem to the problems before it. */
-export function joinTail() {
+export const joinTail = () => state.whenRead(() => {
   endTyping();
   setText(withTail(textNow()));
-}
+});
 
 /** Stores the text for the next visit. */
 export function keepText() {

@@ -1,6 +1,6 @@
 // @ts-check
 // The faults of the report: their marks beside the text, and their explanations in the solutions.
-import { element, makeButton, partText } from '../elements.js';
+import { element, madeWith, makeButton, partText } from '../elements.js';
 import { faultBox } from '../faults.js';
 import { isOfAnother } from '../importing.js';
 import { LONG_TEXT, Work } from '../slices.js';
@@ -29,8 +29,7 @@ export function markFaults() {
   unmarkFaults();
   if (!state.isSolved()) return;
   for (const { fault } of state.items.filter(hasFault).slice(0, MARKED_FAULTS)) {
-    const mark = document.createElement('span');
-    mark.textContent = '!';
+    const mark = madeWith('span', '!');
     mark.dataset.line = String(fault.line);
     element('gutter').append(mark);
   }
@@ -71,12 +70,6 @@ function tryToConvert(text) {
   else doChore('import', { text }, made => end(Boolean(made?.text)), () => end(false));
 }
 
-function convertButton() {
-  const button = makeButton(say('convert'), () => corrected.convert());
-  button.textContent = say('convert');
-  return button;
-}
-
 /** @param {number} line */
 function goToLine(line) {
   const { from, to } = lineAt(textNow(), line);
@@ -102,6 +95,6 @@ export function drawnFault(item) {
   const general = JSON.parse(partText('fault-words'))[item.fault.number] ?? '';
   const placed = { ...item, place: state.places.get(item.number) };
   const box = faultBox(state.solved, placed, general, { goToLine, take: made => corrected.take(made) }, faultWork);
-  whenConvertible(state.solved, () => box.append(convertButton()));
+  whenConvertible(state.solved, () => box.append(makeButton(say('convert'), () => corrected.convert())));
   return box;
 }

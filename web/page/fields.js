@@ -1,12 +1,12 @@
 // @ts-check
 // The fields of the problem on the board: its names, its stipulation, its condition and its options.
-import { element, LONGEST_SHOWN, shortened } from '../elements.js';
+import { element, LONGEST_SHOWN, madeWith, shortened } from '../elements.js';
 import { sayCondition } from '../names.js';
 import { partsOfStipulation, stipulationOf } from '../play.js';
 import { CONDITIONS, fieldsOf, FLAGS, isShort, valueOf, VALUES, withField } from '../text.js';
 import { say } from '../words.js';
 import { endTyping, setText } from './editing.js';
-import { blockNow, textNow } from './state.js';
+import { blockNow, state, textNow } from './state.js';
 
 const FIELDS = [
   ['Title', 'title'], ['Author', 'author'], ['Origin', 'origin'], ['Stipulation', 'stipulation'], ['Condition', 'condition'],
@@ -67,8 +67,11 @@ function valueIn(name) {
  */
 export function fieldChanged(name) {
   endTyping();
-  const block = blockNow();
-  if (block) setText(withField(textNow(), block.from, name, valueIn(name)));
+  const value = valueIn(name);
+  state.whenRead(() => {
+    const block = blockNow();
+    if (block) setText(withField(textNow(), block.from, name, value));
+  });
 }
 
 /** Makes the rows of fields: flags in one, short values in another, and each other field by itself. */
@@ -84,10 +87,9 @@ function fieldRows() {
 function builtField(name, word) {
   const isFlag = FLAGS.includes(name);
   const label = document.createElement('label');
-  const said = document.createElement('span');
+  const said = madeWith('span', say(word));
   const input = document.createElement(['Condition', 'Stipulation'].includes(name) ? 'select' : 'input');
   input.id = `field-${name}`;
-  said.textContent = say(word);
   if (name === 'Condition') input.append(new Option(say('noCondition'), ''), ...CONDITIONS.map(it => new Option(sayCondition(it), it)));
   else if (name !== 'Stipulation') /** @type {HTMLInputElement} */ (input).type = isFlag ? 'checkbox' : 'text';
   input.onchange = () => fieldChanged(name);

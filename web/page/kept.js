@@ -13,11 +13,9 @@ export function showKept() {
   element('kept-list').replaceChildren(...list.map((it, index) => {
     const line = document.createElement('li');
     const name = nameOfText(it.text);
-    const open = makeButton(name, () => takeText(it.text));
-    open.textContent = [name, new Date(it.time).toLocaleString(language), ...(it.isLinked ? [say('byLink')] : [])].join(' · ');
-    const forget = makeButton(`${say('forget')}: ${name}`, () => storeList(list.filter((_, at) => at !== index)));
-    forget.textContent = '✕';
-    line.append(open, forget);
+    const said = [name, new Date(it.time).toLocaleString(language), ...(it.isLinked ? [say('byLink')] : [])].join(' · ');
+    const forget = makeButton(`${say('forget')}: ${name}`, () => storeList(list.filter((_, at) => at !== index)), '✕');
+    line.append(makeButton(name, () => takeText(it.text), said), forget);
     return line;
   }));
 }

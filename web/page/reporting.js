@@ -1,10 +1,10 @@
 // @ts-check
-// Draws the report: its text, its solutions and its faults. A growing report is drawn after pauses.
+// Draws the report: its text, its solutions and its faults, and marks what isn't of the problem on the page any more. A growing report is drawn
+// after pauses.
 import { element, LONGEST_SHOWN, shortened } from '../elements.js';
 import { menOfRanks } from '../position.js';
 import { inSlices } from '../slices.js';
 import { menOf } from '../text.js';
-import { showAge } from './age.js';
 import { drawnFault, faultWork, markFaults } from './faults.js';
 import { state } from './state.js';
 import { tree } from './views.js';
@@ -61,6 +61,13 @@ export function drawReport() {
   tree.draw(state.items, diagramMen, drawnFault);
   showAge();
   markFaults();
+}
+
+/** Marks the solutions of problems that were changed since; hides all solutions of a text that another one replaced. */
+export function showAge() {
+  element('found').hidden = state.isReplaced();
+  element('whole').classList.toggle('old', !state.isCurrent());
+  tree.markOld();
 }
 
 function endDrawing() {

@@ -148,16 +148,17 @@ export function whenSolved(act) {
 }
 
 /** Solves the problem on the board alone. */
-export function solveThis() {
-  solve(blockNow()?.number ?? 0);
-}
+export const solveThis = () => state.whenRead(() => solve(blockNow()?.number ?? 0));
 
 /**
- * Solves the text, or one of its problems.
+ * Solves the text, or one of its problems, once it is read.
  * @param {number} only its number; 0 for all
  * @param {boolean} isLive whether a change of the problem began it
  */
-export function solve(only = 0, isLive = false) {
+export const solve = (only = 0, isLive = false) => state.whenRead(() => beginSolving(only, isLive));
+
+/** @param {number} only @param {boolean} isLive */
+function beginSolving(only, isLive) {
   if (!run.engine || run.solving) return;
   endTyping();
   leave();

@@ -3,9 +3,9 @@
 import { placesOf } from '../explaining.js';
 import { after } from '../position.js';
 import { ReportReading } from '../report.js';
-import { atOnce, inSlices } from '../slices.js';
+import { atOnce, inSlices, LONG_TEXT } from '../slices.js';
 import { Steps } from '../store.js';
-import { blocksOf, posedAlike, readProblem, readText } from '../text.js';
+import { blocksOf, posedAlike, readProblem } from '../text.js';
 import { wholeText } from './area.js';
 
 class PageState {
@@ -45,6 +45,10 @@ class PageState {
     this.compared = { now: '', then: '', isSolved: true, isAsLong: true, changed: new Set() };
     /** Ends what still follows an earlier change. */
     this.endFollowing = () => {};
+    /** @type {string | null} the text that is being read and shown */
+    this.followed = null;
+    /** @type {(() => void)[]} what the user did that needs the problems of a text that is still being read */
+    this.waiting = [];
   }
 
   /**
@@ -110,9 +114,10 @@ class PageState {
     this.places = placesOf(this.solved, list);
   }
 
-  /** Begins another text, which replaces the one before as a whole. */
+  /** Begins another text, which replaces the one before as a whole; what waits for that one isn't done. */
   beginSheet() {
     this.sheet += 1;
+    this.waiting = [];
   }
 
   /**
@@ -207,8 +212,42 @@ class PageState {
   /** Shows everything again after a change of text, problem or position; a long text in slices, until the next change. */
   follow() {
     this.endFollowing();
-    const text = textNow();
-    this.endFollowing = inSlices(text.length, this.following(text));
+    const text = this.followed = textNow();
+    let isOver = false;
+    const stop = inSlices(text.length, this.following(text), () => {
+      isOver = true;
+      this.followed = null;
+      this.goOn();
+    });
+    if (isOver) return;
+    this.endFollowing = () => {
+      stop();
+      this.followed = null;
+    };
+  }
+
+  /**
+   * Does something that needs the problems of the text, after what waits: at once, or when a long text is read.
+   * @param {() => void} act
+   */
+  whenRead(act) {
+    this.waiting.push(act);
+    if (this.followed === textNow() || isRead()) this.goOn();
+    else this.follow();
+  }
+
+  /**
+   * Does something after what waits.
+   * @param {() => void} act
+   */
+  inTurn(act) {
+    if (this.waiting.length) this.waiting.push(act);
+    else act();
+  }
+
+  /** Does what waits, up to a change of a long text. */
+  goOn() {
+    while (this.waiting.length && (this.followed === null || isRead())) this.waiting.shift()?.();
   }
 
   /**
@@ -217,7 +256,7 @@ class PageState {
    * @returns {Generator<void, void>}
    */
   *following(text) {
-    yield* readText(text);
+    yield* blocksOf.steps(text);
     const block = blockNow();
     if (block) yield* readProblem(text, block);
     yield* this.compare();
@@ -233,6 +272,9 @@ export const state = new PageState();
 export function textNow() {
   return wholeText();
 }
+
+/** Returns whether the problems of the text are known, or soon are. */
+const isRead = () => textNow().length < LONG_TEXT || blocksOf.knows(textNow());
 
 /**
  * Returns the problem on the board; null if the text has none.

@@ -18,12 +18,22 @@ export function showPlace(place) {
   element('promotion').hidden = true;
   element('reached').textContent = last ? labelOf(last) : '';
   if (state.walked && last) board.show(state.walked, [last.from, last.to]);
+  if (!place) state.follow();
+  else state.whenRead(() => state.place === place && showItem(place));
+}
+
+/**
+ * Shows the problem of a position, and says which move led there.
+ * @param {Place} place
+ */
+function showItem({ item, moves }) {
   // (the report of a problem that was changed since isn't of one of these)
-  const item = place?.item;
   const isNow = !item || state.isPosedNow(item.number);
-  const isOther = item && isNow && state.number !== item.number;
-  if (isOther) state.choose(item.number);
-  if (isOther || !place) state.follow();
+  if (item && isNow && state.number !== item.number) {
+    state.choose(item.number);
+    state.follow();
+  }
+  const last = moves.at(-1);
   if (last) note(say(isNow ? 'shown' : 'shownOld', { move: labelOf(last) }), unchanged());
 }
 
