@@ -1,5 +1,6 @@
 """A run of a program: its events as they come, its limits, its result."""
 
+import math
 import tempfile
 import threading
 import time
@@ -8,7 +9,6 @@ from collections.abc import Generator, Iterator
 from dataclasses import dataclass
 from enum import Enum
 from signal import SIGKILL
-from subprocess import PIPE
 from typing import IO, Optional, Union
 
 from pops_companions.many.child_process import ChildProcess
@@ -38,9 +38,6 @@ class Ending(Enum):
     FAILED = "the program failed"
 
 
-# The bytes on standard error that end a program, and how many of them are passed on.
-_MOST_ERRORS = 1 << 26
-_MOST_SAID = 1 << 12
 # These end a run although the program has written more.
 _AT_ONCE = (Ending.CANCELLED, Ending.BYTES, Ending.SOLUTIONS)
 
@@ -55,6 +52,11 @@ class Limits:
     seconds: Optional[float] = None
     bytes: Optional[int] = None
     solutions: Optional[int] = None
+
+    def __post_init__(self) -> None:
+        """ValueError where the seconds are no number."""
+        if self.seconds is not None and math.isnan(self.seconds):
+            raise ValueError("the seconds of a run are no number")
 
 
 @dataclass(frozen=True)
@@ -75,8 +77,7 @@ class Solver(Runs):
 
     def begin(self, text: bytes, errors: IO[bytes]) -> ChildProcess:
         """Starts it on a text. RunError where it can't be started."""
-        child = self._started([], PIPE, errors)
-        child.limit_files(_MOST_ERRORS)
+        child = self._begun([], errors)
         child.feed(text)
         return child
 
@@ -84,9 +85,9 @@ class Solver(Runs):
         """Yields what it writes, piece by piece."""
         return self._output(child, lambda: PAUSE)
 
-    def reason(self, status: int, said: bytes) -> str:
+    def why(self, child: ChildProcess, errors: IO[bytes]) -> str:
         """Returns why it failed."""
-        return self._reason(status, said, _MOST_ERRORS)
+        return self._why(child, errors)
 
 
 class Run:
@@ -120,7 +121,9 @@ class Run:
     def _started_timer(self) -> Optional[threading.Timer]:
         if self._limits.seconds is None:
             return None
-        self._child.limit(self._limits.seconds)
+        # (no thread waits longer, and no run takes as long)
+        seconds = min(self._limits.seconds, threading.TIMEOUT_MAX)
+        self._child.limit(seconds)
         stop = weakref.WeakMethod(self._stop)
 
         def end() -> None:
@@ -128,7 +131,7 @@ class Run:
             if found is not None:
                 found(Ending.SECONDS)
 
-        timer = threading.Timer(self._limits.seconds, end)
+        timer = threading.Timer(seconds, end)
         timer.daemon = True
         timer.start()
         return timer
@@ -212,8 +215,7 @@ class Run:
             if self._ending is not None:
                 return None
             self._ending = Ending.FAILED
-            self._errors.seek(0)
-            return self._solver.reason(status, self._errors.read(_MOST_SAID))
+            return self._solver.why(self._child, self._errors)
 
     def _is_out_of_time(self, status: int) -> bool:
         """Returns whether the limit of processor time ended the program, since the timer is late on a busy machine."""

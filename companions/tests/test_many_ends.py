@@ -3,6 +3,7 @@
 import io
 import os
 import pty
+import re
 import signal
 import subprocess
 import sys
@@ -97,9 +98,12 @@ class Signals(SixProblems):
 
     def test_an_ignored_hangup_stays_ignored(self) -> None:
         run = self.waiting(before=ignore_hangup)
+        # (a signal that is ignored leaves no trace that could be waited for)
+        ignored = re.search("SigIgn:\t(.*)", Path(f"/proc/{run.pid}/status").read_text())
+        assert ignored is not None
+        self.assertTrue(int(ignored[1], 16) >> (signal.SIGHUP - 1) & 1)
         run.send_signal(signal.SIGHUP)
-        with self.assertRaises(subprocess.TimeoutExpired):
-            run.wait(0.3)
+        self.assertIsNone(run.poll())
         run.send_signal(signal.SIGTERM)
         run.communicate(timeout=support.PATIENCE)
         self.assertEqual(run.returncode, 6)

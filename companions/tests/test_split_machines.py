@@ -3,14 +3,14 @@
 import os
 import re
 import shutil
-import signal
-import time
+import threading
 import unittest
 from pathlib import Path
 from unittest import mock
 
 from pops_companions.many.machines import logins_of
 from pops_companions.many.parallel import machine_of
+from pops_companions.many.remote_parts import _decoded, _Round
 from tests import run_here, support
 from tests.shown_limit import limit_when_shown
 from tests.six_problems import wait_for
@@ -254,25 +254,26 @@ class Limits(Machines):
 
 
 class Ends(Machines):
-    def lines_found(self, seconds: int) -> bytes:
-        """What is kept of a run that is stopped some seconds after its last part wrote two lines."""
+    def lines_found(self) -> bytes:
+        """What is kept of a run that is stopped once two lines of its last part came."""
         then = "echo 1.Kh8-g8; echo 1.Kh8-h7; printf 1.Kh; exec sleep 6000"
-        run = self.started(*self.words_there(self.pops_part("problem-play-5", then)))
-        wait_for(lambda: "play-5" in self.parts())
-        wait_for(lambda: self.journal.read_bytes().count(b"\npart 0 ") == 25)
-        time.sleep(seconds)
-        run.send_signal(signal.SIGTERM)
-        run.communicate(timeout=support.PATIENCE)
-        self.assertEqual(run.returncode, 6)
+        words = self.words_there(self.pops_part("problem-play-5", then))
+        take, came, stopped = _Round.take, set[bytes](), threading.Event()
+
+        def take_or_stop(now: _Round, line: bytes) -> None:
+            take(now, line)
+            came.add((_decoded(line) or (0, b""))[1])
+            kept = self.journal.read_bytes().count(b"\npart 0 ") if self.journal.exists() else 0
+            if came >= {b"1.Kh8-g8\n", b"1.Kh8-h7\n"} and kept == 25 and not stopped.is_set():
+                stopped.set()
+                raise KeyboardInterrupt
+
+        with mock.patch.object(_Round, "take", take_or_stop):
+            self.assertEqual(run_here.companion("pops-many", *words).status, 6)
         return self.rest.read_bytes()
 
     def test_what_was_found_there_is_kept(self) -> None:
-        # (GNU parallel looks for lines now and then, on a busy machine seldom)
-        for seconds in (3, 30, 300):
-            lines = self.lines_found(seconds)
-            if b"\n1.Kh8-h7\n" in lines:
-                break
-            self.forget()
+        lines = self.lines_found()
         self.assertIn(b"\n1.Kh8-g8\n1.Kh8-h7\n1.c7-c6 ", lines)
         self.assertIn(b"\nunfinished: stopped with 25 of 26 parts done (", lines)
         before = self.parts()

@@ -299,12 +299,15 @@ class Machines:
         others = " ".join(map(shlex.quote, names[1:]))
         self._probing = [script + _CHECKSUMS.format(others=others), names[0]]
         named = [name for login in logins for name in login.split(",") if name]
-        self.alive = [login for login in dict.fromkeys(named) if self._is_sound(login)]
+        try:
+            wanted = program.report(PROBE)
+        except RunError as error:
+            raise MachinesError(str(error)) from None
+        self.alive = [login for login in dict.fromkeys(named) if self._is_sound(login, wanted)]
         self.expect_some()
         self.compare(0, program.path)
 
-    def _is_sound(self, login: str) -> bool:
-        wanted = self._program.report(PROBE)
+    def _is_sound(self, login: str, wanted: bytes) -> bool:
         for _ in range(FAILURES):
             probe = self._probed(login)
             reason = self._parallel.last_error

@@ -1,6 +1,5 @@
 """Runs of the program pops-part on this machine."""
 
-import subprocess
 import tempfile
 from collections.abc import Callable, Generator, Iterator, Sequence
 from contextlib import closing
@@ -9,7 +8,6 @@ from typing import Optional
 from pops_companions.many.batches import Batch, numbers_of
 from pops_companions.many.child_process import (
     MOST_OUTPUT,
-    MOST_SAID,
     ChildProcess,
     OutputError,
 )
@@ -122,20 +120,19 @@ class PartProgram(Runs):
         RunError where it doesn't end well.
         """
         with tempfile.TemporaryFile() as errors:
-            child = self._started(words, subprocess.PIPE, errors)
+            child = self._begun(words, errors)
             with self._lock:
                 self._at_work[first.key] = child
                 if first.key in self._dropped:
                     child.kill()
             try:
-                yield from self._written(child, first.text, pause)
+                child.feed(first.text)
+                yield from self._output(child, pause)
             finally:
                 with self._lock:
                     del self._at_work[first.key]
-            status = child.run.returncode
-            if status != SOUND:
-                errors.seek(0)
-                raise RunError(self._reason(status, errors.read(MOST_SAID)))
+            if child.run.returncode != SOUND:
+                raise RunError(self._why(child, errors))
 
     def drop(self, part: Part) -> None:
         """Stops the run that begins with a part that can't matter any more."""

@@ -38,6 +38,10 @@ from pops_companions.report import lines
 
 # A run of pops ends with one of these where every byte of its report was written.
 SOUND, FAULTY = 0, 1
+# The bytes that a program may say into a file, where what it writes is read piece by piece.
+MOST_ERRORS = 1 << 26
+# How many of these are shown.
+MOST_SHOWN = 1 << 12
 # A run of pops on a file that it can't open ends with this.
 UNREADABLE = 3
 
@@ -212,12 +216,11 @@ class Runs:
         child = self._started(words, subprocess.PIPE, subprocess.PIPE)
         return self._ended(child, text, seconds, spooled_if)
 
-    def _written(
-        self, child: ChildProcess, text: bytes, pause: Callable[[], int]
-    ) -> Generator[bytes, None, None]:
-        """Yields what a run on a text writes, as `_output` does."""
-        child.feed(text)
-        yield from self._output(child, pause)
+    def _begun(self, words: Sequence[str], errors: IO[bytes]) -> ChildProcess:
+        """Starts a run that is read piece by piece; what it says goes to a file, up to MOST_ERRORS."""
+        child = self._started(words, subprocess.PIPE, errors)
+        child.limit_files(MOST_ERRORS)
+        return child
 
     def _output(
         self, child: ChildProcess, pause: Callable[[], int]
@@ -255,6 +258,11 @@ class Runs:
             with self._lock:
                 self._running.discard(child)
             child.release()
+
+    def _why(self, child: ChildProcess, errors: IO[bytes]) -> str:
+        """Returns why a run that was begun failed, with the first of what it said."""
+        errors.seek(0)
+        return self._reason(child.run.returncode, errors.read(MOST_SHOWN), MOST_ERRORS)
 
     def _reason(self, status: int, error: bytes, most: int = MOST_SPOOLED) -> str:
         """Returns why a run failed that could write `most` bytes into a file."""
