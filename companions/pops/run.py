@@ -12,7 +12,7 @@ from signal import SIGKILL
 from typing import IO, Optional, Union
 
 from pops_companions.many.child_process import ChildProcess
-from pops_companions.many.program import FAULTY, PAUSE, SOUND, RunError, Runs
+from pops_companions.many.program import FAULTY, SOUND, RunError, Runs
 from pops_companions.report import events
 from pops_companions.report.item_builder import ItemBuilder
 from pops_companions.report.items import AnyItem
@@ -83,7 +83,7 @@ class Solver(Runs):
 
     def output(self, child: ChildProcess) -> Generator[bytes, None, None]:
         """Yields what it writes, piece by piece."""
-        return self._output(child, lambda: PAUSE)
+        return self._output(child)
 
     def why(self, child: ChildProcess, errors: IO[bytes]) -> str:
         """Returns why it failed."""

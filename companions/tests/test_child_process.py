@@ -181,7 +181,6 @@ class Ended(support.InRoom):
         """It has its seconds after the last problem, and its output is taken."""
         bundle = tasks(input_of(MATE, MATE))
         child = self.begun(f"'{support.pops()}'; {_GROUP}", True)
-        child.feed(input_of(MATE, MATE))
 
         def is_out_of_time(run: BundleRun, now: float) -> bool:
             return run._whole == 2
@@ -196,7 +195,6 @@ class Ended(support.InRoom):
     def test_a_bundle_whose_output_is_closed(self) -> None:
         bundle = tasks(input_of(MATE, MATE))
         child = self.begun(f"exec >&-; {_GROUP}", True)
-        child.feed(b"")
         bundles = Bundles(bundle, 1)
         with mock.patch("pops_companions.many.bundle_run.MOMENT", 0.0):
             came = BundleRun(child, bundle, 0.05, bundles).go()

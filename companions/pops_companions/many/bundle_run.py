@@ -1,21 +1,15 @@
 """A run of pops on a bundle: reads what it writes, and ends it once it has done what is wanted."""
 
-import os
-import select
-import subprocess
 import time
 from collections.abc import Sequence
-from contextlib import suppress
+from contextlib import closing
 from typing import NamedTuple, Optional
 
-from pops_companions.many.bundles import MOMENT, Bundles, items_in
-from pops_companions.many.child_process import ChildProcess, rest_of
+from pops_companions.many.bundles import MOMENT, Bundles, items_in, text_of
+from pops_companions.many.child_process import ChildProcess
 from pops_companions.many.tasks import UNFINISHED, Result, Task, whole_lines
 from pops_companions.report import lines
 
-# In milliseconds: a program that writes line by line is read after pauses.
-_PAUSE = 20
-_PIECE = 1 << 16
 # The most bytes of its report: a problem that has more is solved alone.
 _MOST_WRITTEN = 1 << 26
 # The statuses of runs that wrote every byte of their report.
@@ -60,57 +54,16 @@ class BundleRun:
 
     def go(self) -> Came:
         """Reads until the end of the run."""
-        assert self._child.run.stdout is not None
-        output = self._child.run.stdout.fileno()
-        try:
-            if self._read(output):
-                self._wait()
-            if self._child.is_killed:
-                self._child.end()
-                self._written.append(rest_of(output))
-        except BaseException:
-            self._child.kill()
-            raise
-        finally:
-            self._child.run.stdout.close()
-            self._child.wait()
-            self._child.release()
+        text = text_of(self._tasks)
+        with closing(self._child.pieces(text, self._milliseconds)) as pieces:
+            for _, piece in pieces:
+                if piece:
+                    self._written.append(piece)
+                    self._times.append(time.monotonic())
+                    self._left -= len(piece)
+                if self._left < 0 or self._is_over():
+                    self._child.kill()
         return self._came()
-
-    def _read(self, output: int) -> bool:
-        """Reads until the end of its output, or until it is killed; returns whether it isn't."""
-        ready, end = select.poll(), select.poll()
-        ready.register(output, select.POLLIN)
-        ready.register(self._child.woken, select.POLLIN)
-        # (without an event of its own it reports only the end)
-        end.register(output, 0)
-        while not self._is_over():
-            came = ready.poll(self._milliseconds())
-            if self._child.is_killed:
-                return False
-            if not came:
-                continue
-            piece = os.read(output, _PIECE)
-            if not piece:
-                return True
-            self._written.append(piece)
-            self._times.append(time.monotonic())
-            self._left -= len(piece)
-            if self._left < 0:
-                break
-            if len(piece) < _PIECE // 2:
-                end.poll(_PAUSE)
-        self._child.kill()
-        return False
-
-    def _wait(self) -> None:
-        """Waits for the end of a program that has closed its output, as long as it has time."""
-        while not self._is_over():
-            milliseconds = None if self._seconds is None else self._milliseconds()
-            with suppress(subprocess.TimeoutExpired):
-                self._child.run.wait(milliseconds and milliseconds / 1000)
-                return
-        self._child.kill()
 
     def _look(self) -> None:
         """Looks through what came since the last look, for which problem is at work."""

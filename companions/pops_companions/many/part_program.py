@@ -8,6 +8,7 @@ from typing import Optional
 from pops_companions.many.batches import Batch, numbers_of
 from pops_companions.many.child_process import (
     MOST_OUTPUT,
+    PAUSE,
     ChildProcess,
     OutputError,
 )
@@ -20,7 +21,7 @@ from pops_companions.many.parts import (
     phases_listed,
     up_to_totals,
 )
-from pops_companions.many.program import PAUSE, SOUND, RunError, Runs
+from pops_companions.many.program import SOUND, RunError, Runs
 from pops_companions.many.tasks import whole_lines
 
 # In milliseconds, in place of PAUSE.
@@ -126,8 +127,7 @@ class PartProgram(Runs):
                 if first.key in self._dropped:
                     child.kill()
             try:
-                child.feed(first.text)
-                yield from self._output(child, pause)
+                yield from self._output(child, first.text, pause)
             finally:
                 with self._lock:
                     del self._at_work[first.key]

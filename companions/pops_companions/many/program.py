@@ -1,27 +1,27 @@
 """Programs on this machine: where they are, and runs of them."""
 
 import os
-import select
 import signal
 import subprocess
 import threading
 from collections.abc import Callable, Generator, Sequence
+from contextlib import closing
 from typing import IO, Optional
 
 from pops_companions import places
 from pops_companions.many.bundle_run import BundleRun, Came
-from pops_companions.many.bundles import Bundles, text_of
+from pops_companions.many.bundles import Bundles
 from pops_companions.many.child_process import (
     MOST_OUTPUT,
     MOST_ROOM,
     MOST_SPOOLED,
+    PAUSE,
     ChildProcess,
     Outcome,
     Stream,
     has_room,
     outcome_of,
     refuse_unlisted,
-    rest_of,
     wrote_more,
 )
 from pops_companions.many.tasks import (
@@ -45,9 +45,6 @@ MOST_SHOWN = 1 << 12
 # A run of pops on a file that it can't open ends with this.
 UNREADABLE = 3
 
-# What a run writes is read after pauses of this many milliseconds, unless it ends sooner or writes
-# much: it writes line by line, and waking for each line would cost more than the search.
-PAUSE = 20
 _PIECE = 1 << 16
 # The most runs at a time that have room for what they write in a pause: pipes take little in all.
 _MOST_WITH_ROOM = 16
@@ -71,13 +68,21 @@ class OutputRunError(RunError):
     """A run whose output can't be kept: another one would end in the same way."""
 
 
+def named_program(named: Optional[str], variable: str) -> Optional[str]:
+    """Returns the program that is named, or that a variable names; None where neither names one.
+
+    MissingError where it is nowhere.
+    """
+    named = named or os.environ.get(variable)
+    found = places.found(named) if named else None
+    if named and found is None:
+        raise MissingError(f"there is no program {named}")
+    return found
+
+
 def find(named: Optional[str]) -> str:
     """Finds the program as LOOKED_FOR says; builds none. MissingError where it is nowhere."""
-    named = named or os.environ.get("POPS")
-    if named:
-        found = places.found(named)
-        if found is None:
-            raise MissingError(f"there is no program {named}")
+    if found := named_program(named, "POPS"):
         return without_script(found)
     found = _of_sources(REPOSITORY, "pops") or _beside() or places.found("pops")
     if found is not None:
@@ -98,12 +103,8 @@ def find_part_program(named: Optional[str], pops: str) -> str:
     """Returns the program of parts: as named, $POPS_PART, from the repository of pops or beside it,
     from this repository, or on the PATH.
     """
-    named = named or os.environ.get("POPS_PART")
-    if named:
-        found = places.found(named)
-        if found is None:
-            raise MissingError(f"there is no program {named}")
-        return without_script(found, "pops-part")
+    if named_found := named_program(named, "POPS_PART"):
+        return without_script(named_found, "pops-part")
     folder = folder_above(os.path.realpath(pops))
     # (built in crates/pops/out, or released in release)
     above = [folder_above(folder, 3), folder_above(folder)]
@@ -223,41 +224,19 @@ class Runs:
         return child
 
     def _output(
-        self, child: ChildProcess, pause: Callable[[], int]
+        self,
+        child: ChildProcess,
+        text: Optional[bytes] = None,
+        pause: Callable[[], int] = lambda: PAUSE,
     ) -> Generator[bytes, None, None]:
-        """Yields what a run writes, piece by piece, after pauses in milliseconds. It is stopped where
-        it isn't read on."""
-        run, is_read = child.run, False
-        assert run.stdout is not None
-        output = run.stdout.fileno()
-        ready, end = select.poll(), select.poll()
-        ready.register(output, select.POLLIN)
-        ready.register(child.woken, select.POLLIN)
-        # (without an event of its own it reports only the end)
-        end.register(output, 0)
+        """Yields what a run writes, as `ChildProcess.pieces` does."""
         try:
-            while not child.is_killed:
-                ready.poll()
-                if child.is_killed:
-                    break
-                piece = os.read(output, _PIECE)
-                if not piece:
-                    break
-                yield piece
-                if len(piece) < _PIECE // 2:
-                    end.poll(pause())
-            if child.is_killed:
-                child.end()
-                yield rest_of(output)
-            is_read = True
+            with closing(child.pieces(text, pause=pause)) as pieces:
+                for _, piece in pieces:
+                    yield piece
         finally:
-            if not is_read:
-                child.kill()
-            run.stdout.close()
-            child.wait()
             with self._lock:
                 self._running.discard(child)
-            child.release()
 
     def _why(self, child: ChildProcess, errors: IO[bytes]) -> str:
         """Returns why a run that was begun failed, with the first of what it said."""
@@ -309,7 +288,6 @@ class Program(Runs):
                 has_room(child.run.stdout, MOST_ROOM)
             if self.seconds is not None:
                 child.limit(self.seconds * len(bundle))
-            child.feed(text_of(bundle))
             return BundleRun(child, bundle, self.seconds, bundles).go()
         finally:
             with self._lock:
