@@ -38,10 +38,9 @@ class Machines(SplitRoom):
     def setUp(self) -> None:
         super().setUp()
         # (a busy machine takes no probe to the end of this time)
-        for module in ("machines", "remote_parts"):
-            patch = mock.patch(f"pops_companions.many.{module}.SECONDS_OF_A_PROBE", float(support.PATIENCE))
-            patch.start()
-            self.addCleanup(patch.stop)
+        patch = mock.patch("pops_companions.many.machines.SECONDS_OF_A_PROBE", float(support.PATIENCE))
+        patch.start()
+        self.addCleanup(patch.stop)
         self.where = f"problem 1 ({self.input}, line 1)"
 
     def words_there(self, pops_part: str, *more: str, logins: str = "one,2/two") -> list[str]:
@@ -170,7 +169,7 @@ class Fails(Machines):
 
     def test_a_machine_that_hangs_at_its_probe_is_left_out(self) -> None:
         words = self.words_there(self.pops_part("probe-*", 'if [ "$MACHINE" ]; then sleep 6000; fi'))
-        with mock.patch("pops_companions.many.remote_parts.SECONDS_OF_A_PROBE", 1.0):
+        with mock.patch("pops_companions.many.machines.SECONDS_OF_A_PROBE", 1.0):
             outcome = run_here.companion("pops-many", *words)
         left_out = [f"machine {it} left out: no report came back in 1 s" for it in ("one", "2/two")]
         said = "".join(f"pops-many: {it}\n" for it in [*left_out, "no machine is left"])

@@ -24,9 +24,8 @@ from pops_companions.many.journal import Journal, JournalError, Origin, fingerpr
 from pops_companions.many.program import MissingError, Program, find, find_part_program
 from pops_companions.many.progress import Progress
 from pops_companions.many.running import Elsewhere, PartPrograms, Programs, Run
-from pops_companions.many.targets import Target
+from pops_companions.many.targets import Target, UnfinishedTarget
 from pops_companions.many.tasks import Input, Source, Tasks, tasks_of
-from pops_companions.many.unfinished import UnfinishedTarget
 from pops_companions.places import folder_above
 
 if TYPE_CHECKING:
@@ -234,11 +233,11 @@ def elsewhere_of(
         try:
             parallel = Parallel(settings.jobs, settings.ssh, say)
             opened.callback(parallel.close)
-            names = [settings.remote_pops, *([pops_part] if programs.parts is not None else [])]
-            machines = Machines(settings.sshlogin, parallel, names, options, programs.whole, say)
-            there = None
-            if programs.parts is not None:
-                there = RemoteParts(machines, parallel, pops_part, programs.parts.parts, say)
+            parts = programs.parts.parts if programs.parts is not None else None
+            names = [settings.remote_pops, *([pops_part] if parts is not None else [])]
+            here = (programs.whole, parts)
+            machines = Machines(settings.sshlogin, parallel, options, names, here, say)
+            there = RemoteParts(machines, parallel, pops_part, parts, say) if parts is not None else None
         except (MachinesError, ParallelError) as error:
             raise CommandError(Status.DEVICE, str(error)) from None
         opened.pop_all()
