@@ -9,9 +9,8 @@ from collections.abc import Generator, Iterator
 from dataclasses import dataclass
 from enum import Enum
 from signal import SIGKILL
-from typing import IO, Optional, Union
+from typing import Optional, Union
 
-from pops_companions.many.child_process import ChildProcess
 from pops_companions.many.program import FAULTY, SOUND, RunError, Runs
 from pops_companions.report import events
 from pops_companions.report.item_builder import ItemBuilder
@@ -72,24 +71,6 @@ class Result:
     items: tuple[Union[AnyItem, AnyTriesItem], ...]
 
 
-class Solver(Runs):
-    """A program that is begun for one run."""
-
-    def begin(self, text: bytes, errors: IO[bytes]) -> ChildProcess:
-        """Starts it on a text. RunError where it can't be started."""
-        child = self._begun([], errors)
-        child.feed(text)
-        return child
-
-    def output(self, child: ChildProcess) -> Generator[bytes, None, None]:
-        """Yields what it writes, piece by piece."""
-        return self._output(child)
-
-    def why(self, child: ChildProcess, errors: IO[bytes]) -> str:
-        """Returns why it failed."""
-        return self._why(child, errors)
-
-
 class Run:
     """A run of a program on a text; iterating gives its events as they come.
 
@@ -97,8 +78,8 @@ class Run:
     does the end of this process.
     """
 
-    def __init__(self, solver: Solver, text: bytes, kind: TextKind, limits: Limits):
-        self._solver = solver
+    def __init__(self, program: Runs, text: bytes, kind: TextKind, limits: Limits):
+        self._program = program
         self._limits = limits
         self._lock = threading.Lock()
         self._reading = threading.Lock()
@@ -114,7 +95,8 @@ class Run:
         self._counted = 0
         self._errors = tempfile.TemporaryFile()
         self._begun = time.monotonic()
-        self._child = solver.begin(text, self._errors)
+        self._child = program.begun([], self._errors)
+        self._child.feed(text)
         self._timer = self._started_timer()
         self._events = self._read()
 
@@ -185,7 +167,7 @@ class Run:
                 self._child.kill()
 
     def _read(self) -> Generator[events.Event, None, None]:
-        output = self._solver.output(self._child)
+        output = self._program.output(self._child)
         try:
             for piece in output:
                 yield from self._events_of(piece)
@@ -215,7 +197,7 @@ class Run:
             if self._ending is not None:
                 return None
             self._ending = Ending.FAILED
-            return self._solver.why(self._child, self._errors)
+            return self._program.why(self._child, self._errors)
 
     def _is_out_of_time(self, status: int) -> bool:
         """Returns whether the limit of processor time ended the program, since the timer is late on a busy machine."""

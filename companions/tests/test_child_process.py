@@ -151,6 +151,26 @@ class Ended(support.InRoom):
         os.close(reading)
         os.close(writing)
 
+    def test_a_process_that_closes_files_meanwhile(self) -> None:
+        """It holds the pipe still, although the first of its files is gone when it is looked at."""
+        reading, writing = os.pipe()
+        child = subprocess.Popen(["sh", "-c", "sleep 1800 & wait"], pass_fds=(reading,), start_new_session=True)
+        self.addCleanup(child.communicate)
+        self.addCleanup(sessions.end, child.pid)
+        wait_for(lambda: len(sessions.members(child.pid)) == 2)
+        (process,) = set(sessions.members(child.pid)) - {child.pid}
+        readlink = os.readlink
+
+        def but_the_first(path: str) -> str:
+            if path.endswith("/fd/0"):
+                raise FileNotFoundError
+            return readlink(path)
+
+        with mock.patch("os.readlink", but_the_first):
+            self.assertIn(process, sessions.of_run(0, "", sessions.name_of_pipe(reading)))
+        os.close(reading)
+        os.close(writing)
+
     def test_where_the_system_lists_no_processes(self) -> None:
         """What may start others isn't started."""
         script = self.write_program("program", f"#!/bin/sh\ntouch '{self.room}/begun'\n")

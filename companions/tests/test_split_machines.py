@@ -1,7 +1,6 @@
 """pops-many --split on other machines: parts that fail there, limits, and what is found of them."""
 
 import os
-import re
 import shutil
 import threading
 import unittest
@@ -14,7 +13,7 @@ from pops_companions.many.remote_parts import _decoded, _Round
 from tests import run_here, support
 from tests.shown_limit import limit_when_shown
 from tests.six_problems import wait_for
-from tests.split_room import SplitRoom
+from tests.split_room import SplitRoom, without_progress
 
 # In the place of ssh: the command runs here, and knows the machine that it was for.
 _SSH = """#!/bin/bash
@@ -50,11 +49,8 @@ class Machines(SplitRoom):
         return words
 
     def there(self, pops_part: str, *more: str, logins: str = "one,2/two") -> support.Outcome:
-        return support.companion("pops-many", *self.words_there(pops_part, *more, logins=logins))
-
-    def said(self, outcome: support.Outcome) -> str:
-        """What a run said, but for how far it was: that is said on a busy machine."""
-        return re.sub(r"(?m)^pops-many: problem .*: (?:about )?\d+ of \d+ first moves.*\n", "", outcome.error)
+        outcome = support.companion("pops-many", *self.words_there(pops_part, *more, logins=logins))
+        return without_progress(outcome)
 
     def is_solved(self, outcome: support.Outcome) -> None:
         self.assertEqual((outcome.status, outcome.output), (0, b""), outcome.error)
@@ -69,7 +65,7 @@ class Fails(Machines):
         outcome = self.there(self.pops_part("problem-play-2", then))
         self.is_solved(outcome)
         self.assertRegex(
-            self.said(outcome),
+            outcome.error,
             r"^pops-many: part 2 of the play of problem 1 \(.*, line 1\) failed on machine (one|two):"
             r" tried elsewhere: pops-part ended with status 7\n$",
         )
@@ -96,7 +92,7 @@ class Fails(Machines):
         words = self.words_there(self.pops_part(pattern, then), logins=logins)
         with mock.patch("pops_companions.many.remote_parts.MOST_OUTPUT", 1 << 12):
             with limit_when_shown(self.room):
-                return run_here.companion("pops-many", *words)
+                return without_progress(run_here.companion("pops-many", *words))
 
     def test_a_part_that_floods_is_tried_elsewhere(self) -> None:
         for flood in ("yes", "tr '\\0' x < /dev/zero | fold -w 900"):
@@ -105,7 +101,7 @@ class Fails(Machines):
                 outcome = self.flooded("problem-play-2", f"if {once}; then {flood}; fi", "one,2/two")
                 self.is_solved(outcome)
                 self.assertRegex(
-                    self.said(outcome),
+                    outcome.error,
                     r"^pops-many: part 2 of the play of problem 1 \(.*, line 1\) failed on machine (one|two):"
                     r" tried elsewhere: it wrote more than \d+ MiB\n$",
                 )

@@ -170,11 +170,7 @@ def _add_machines(parser: argparse.ArgumentParser) -> None:
         help="run on these machines, through GNU parallel and ssh; : is this machine",
     )
     add("--remote-pops", default="pops", metavar="PROGRAM", help="pops on those machines (pops)")
-    add(
-        "--remote-pops-part",
-        metavar="PROGRAM",
-        help="pops-part on those machines (pops-part)",
-    )
+    add("--remote-pops-part", metavar="PROGRAM", help="pops-part on those machines (pops-part)")
     add(
         "--ssh",
         type=_shell_command,
@@ -218,9 +214,7 @@ def arguments(words: list[str]) -> Settings:
     return settings
 
 
-def refuse_split(
-    parser: argparse.ArgumentParser, settings: Settings
-) -> None:
+def refuse_split(parser: argparse.ArgumentParser, settings: Settings) -> None:
     """Refuses what doesn't go together with parts, or is nothing without them."""
     if not settings.split:
         for option in ("split_after", "split_depth", "pops_part", "remote_pops_part"):

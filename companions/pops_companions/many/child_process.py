@@ -325,7 +325,7 @@ class ChildProcess:
         os.close(self._watched)
         os.close(self._held)
         if self._watcher is not None:
-            self._watcher.end()
+            self._watcher.close()
 
 
 def rest_of(pipe: int) -> bytes:

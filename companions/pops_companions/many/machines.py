@@ -317,9 +317,8 @@ class Machines:
         self._say = say
         self._parallel = parallel
         self._lock = threading.Lock()
-        # The checksums of these programs, by the machines.
-        self._checksums: dict[str, list[str]] = {}
-        self._number = len(names)
+        # The checksums of the machines' programs, by their names: empty where one isn't known.
+        self._checksums: dict[tuple[str, str], str] = {}
         self._program, parts = programs
         script = _SCRIPT.format(options=" ".join(options), without=_WITHOUT_LIMIT)
         self._script = [script, names[0]]
@@ -332,15 +331,17 @@ class Machines:
         named = [name for login in logins for name in login.split(",") if name]
         self.alive = [login for login in dict.fromkeys(named) if self._is_sound(login, wanted)]
         self.expect_some()
-        for place, program in enumerate(filter(None, programs)):
-            self._compare(place, program.path)
+        for name, program in zip(_PROGRAMS, programs):
+            if program is not None:
+                self._compare(name, program.path)
 
     def _is_sound(self, login: str, wanted: Sequence[bytes]) -> bool:
         for _ in range(FAILURES):
             probe = self._probed(login)
             fault = probe.fault(wanted)
             if fault is None:
-                self._checksums[machine_of(login)] = probe.checksums
+                for name, checksum in zip(_PROGRAMS, probe.checksums):
+                    self._checksums[machine_of(login), name] = checksum
                 return True
             reason = fault or self._parallel.last_error
             if probe.is_late:
@@ -356,16 +357,16 @@ class Machines:
         self._parallel.run([login], jobs, probe.take, probe.look, shared=True)
         return probe
 
-    def _checksum(self, login: str, place: int) -> str:
+    def _checksum(self, login: str, name: str) -> str:
         """Returns the checksum of a machine's program; nothing where it isn't known."""
-        return "".join(self._checksums[machine_of(login)][place : place + 1])
+        return self._checksums.get((machine_of(login), name), "")
 
-    def _compare(self, place: int, program: str) -> None:
-        """Says which machines have another program in a place than the one here, or one that isn't known,
-        as without sha256sum.
+    def _compare(self, name: str, program: str) -> None:
+        """Says which machines have another program by this name than the one here, or one that isn't
+        known, as without sha256sum.
         """
-        name, here = _PROGRAMS[place], places.fingerprint(program)
-        sums = {login: self._checksum(login, place) for login in self.alive}
+        here = places.fingerprint(program)
+        sums = {login: self._checksum(login, name) for login in self.alive}
         unknown = [login for login in sums if not sums[login]]
         others = [login for login in sums if sums[login] not in ("", here)]
         if unknown:
@@ -378,9 +379,8 @@ class Machines:
         began. A program that isn't known is taken for the same.
         """
         for login in self.alive:
-            now = self._probed(login).checksums
-            for place, (name, checksum) in enumerate(zip(_PROGRAMS, now)):
-                if checksum and self._checksum(login, place) not in ("", checksum):
+            for name, checksum in zip(_PROGRAMS, self._probed(login).checksums):
+                if checksum and self._checksum(login, name) not in ("", checksum):
                     return f"{name} on {machine_of(login)}"
         return None
 
@@ -391,8 +391,8 @@ class Machines:
         MachinesError where no machine is left.
         """
         for login in list(self.alive):
-            for place, name in enumerate(_PROGRAMS[: self._number]):
-                checksum = self._checksum(login, place)
+            for name in _PROGRAMS:
+                checksum = self._checksum(login, name)
                 if checksum and not is_from(f"{name} on {machine_of(login)}", checksum):
                     self.alive.remove(login)
                     self._say(f"machine {login} left out: {name} isn't the one that the run had there")
@@ -441,10 +441,6 @@ class Machines:
 
         jobs = Jobs(self._script, now.lines, now.seconds)
         self._parallel.run(self.alive, jobs, now.take, look, shared=True)
-
-    def close(self) -> None:
-        """Ends all connections."""
-        self._parallel.close()
 
     def leave_out(self, machine: str, reason: str = "") -> None:
         """Hands out nothing more to a machine that failed, by default for the last error."""

@@ -121,18 +121,18 @@ class PartProgram(Runs):
         RunError where it doesn't end well.
         """
         with tempfile.TemporaryFile() as errors:
-            child = self._begun(words, errors)
+            child = self.begun(words, errors)
             with self._lock:
                 self._at_work[first.key] = child
                 if first.key in self._dropped:
                     child.kill()
             try:
-                yield from self._output(child, first.text, pause)
+                yield from self.output(child, first.text, pause)
             finally:
                 with self._lock:
                     del self._at_work[first.key]
             if child.run.returncode != SOUND:
-                raise RunError(self._why(child, errors))
+                raise RunError(self.why(child, errors))
 
     def drop(self, part: Part) -> None:
         """Stops the run that begins with a part that can't matter any more."""

@@ -28,7 +28,6 @@ from pops_companions.many.tasks import (
     HEAD,
     UNFINISHED,
     Result,
-    Source,
     Task,
     is_whole,
     whole_lines,
@@ -217,13 +216,13 @@ class Runs:
         child = self._started(words, subprocess.PIPE, subprocess.PIPE)
         return self._ended(child, text, seconds, spooled_if)
 
-    def _begun(self, words: Sequence[str], errors: IO[bytes]) -> ChildProcess:
+    def begun(self, words: Sequence[str], errors: IO[bytes]) -> ChildProcess:
         """Starts a run that is read piece by piece; what it says goes to a file, up to MOST_ERRORS."""
         child = self._started(words, subprocess.PIPE, errors)
         child.limit_files(MOST_ERRORS)
         return child
 
-    def _output(
+    def output(
         self,
         child: ChildProcess,
         text: Optional[bytes] = None,
@@ -238,7 +237,7 @@ class Runs:
             with self._lock:
                 self._running.discard(child)
 
-    def _why(self, child: ChildProcess, errors: IO[bytes]) -> str:
+    def why(self, child: ChildProcess, errors: IO[bytes]) -> str:
         """Returns why a run that was begun failed, with the first of what it said."""
         errors.seek(0)
         return self._reason(child.run.returncode, errors.read(MOST_SHOWN), MOST_ERRORS)
@@ -297,7 +296,7 @@ class Program(Runs):
         """Returns the result of a first run; for the line of a fault it runs the problem again, here.
         """
         if task.wants_line_ends(report):
-            status, report = self._one(task.text_with_line_ends)
+            status, report = self._of(self.outcome([], task.text_with_line_ends, self.seconds))
         if status == UNFINISHED:
             return Result(task, status, task.numbered(whole_lines(report)), self.seconds)
         return Result(task, status, task.numbered(report))
@@ -306,12 +305,8 @@ class Program(Runs):
         """Returns the report of one problem, however long it takes."""
         return self._of(self.outcome([], text))[1]
 
-    def _one(self, text: bytes) -> tuple[int, bytes]:
-        """Status and report of a run on one problem; UNFINISHED where its time was over."""
-        return self._of(self.outcome([], text, self.seconds))
-
     def _of(self, run: Outcome) -> tuple[int, bytes]:
-        """Status and report of a run that ended."""
+        """Status and report of a run on one problem; UNFINISHED where its time was over."""
         if run.status in (SOUND, FAULTY) and is_whole(run.output):
             return run.status, run.output
         if not run.in_time:
@@ -338,33 +333,24 @@ class Program(Runs):
         # (loaded only by runs that need it)
         import tempfile
 
-        text = task.source.text
-        errors = subprocess.DEVNULL if text is None else None
         # (it stays open as long as the result)
         report = tempfile.TemporaryFile()
+        name, text = task.source
+        errors = subprocess.DEVNULL if text is None else None
+        source = subprocess.PIPE
+        if name is not None:
+            # (pops takes no name that isn't UTF-8)
+            try:
+                source = os.open(name, os.O_RDONLY | os.O_CLOEXEC)
+            except OSError:
+                return Result(task, UNREADABLE, b"")
         try:
-            child = self._started_on(task.source, errors, report)
-        except FileNotFoundError:
-            report.close()
-            return Result(task, UNREADABLE, b"")
+            child = self._started([], source, errors, report)
+        finally:
+            if name is not None:
+                os.close(source)
         child.limit_files(MOST_SPOOLED)
         run = self._ended(child, text, None)
         if run.status < 0:
             raise RunError(self._reason(run.status, b""))
         return Result(task, run.status, b"", spooled=report)
-
-    def _started_on(self, source: Source, errors: Stream, output: Stream) -> ChildProcess:
-        """Starts a run that reads a source itself: pops takes no name that isn't UTF-8.
-
-        FileNotFoundError where the source can't be opened.
-        """
-        if source.name is None:
-            return self._started([], subprocess.PIPE, errors, output)
-        try:
-            opened = os.open(source.name, os.O_RDONLY | os.O_CLOEXEC)
-        except OSError:
-            raise FileNotFoundError from None
-        try:
-            return self._started([], opened, errors, output)
-        finally:
-            os.close(opened)

@@ -68,30 +68,28 @@ class _Written:
     """What came back of parts so far, by their numbers."""
 
     def __init__(self) -> None:
-        self._lines: dict[int, list[bytes]] = {}
-        self._sizes: dict[int, int] = {}
+        self._texts: dict[int, bytearray] = {}
         self._held = 0
 
     def add(self, number: int, text: bytes) -> Optional[int]:
         """Adds a line of a part. Returns a part that wrote too much, which it drops."""
-        self._lines.setdefault(number, []).append(text)
-        self._sizes[number] = self._sizes.get(number, 0) + len(text)
+        known = self._texts.setdefault(number, bytearray())
+        known += text
         self._held += len(text)
-        if self._sizes[number] <= MOST_OUTPUT and self._held <= _MOST_HELD:
+        if len(known) <= MOST_OUTPUT and self._held <= _MOST_HELD:
             return None
-        longest = max(self._sizes, key=self._sizes.__getitem__)
+        longest = max(self._texts, key=lambda it: len(self._texts[it]))
         self.drop(longest)
         return longest
 
     def drop(self, number: int) -> None:
-        self._lines.pop(number, None)
-        self._held -= self._sizes.pop(number, 0)
+        self._held -= len(self._texts.pop(number, b""))
 
     def of(self, number: int) -> bytes:
-        return b"".join(self._lines.get(number, []))
+        return bytes(self._texts.get(number, b""))
 
     def __iter__(self) -> Iterator[int]:
-        return iter(self._lines)
+        return iter(self._texts)
 
 
 class _Round:
