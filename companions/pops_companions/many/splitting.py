@@ -10,7 +10,7 @@ from pops_companions.many.journal import Journal
 from pops_companions.many.local import TRIES, in_threads
 from pops_companions.many.machines import Machines, MachinesError
 from pops_companions.many.part_program import PartProgram
-from pops_companions.many.parts import Part, PartsError, head_of, limit_of
+from pops_companions.many.parts import Key, Part, PartsError, head_of, limit_of
 from pops_companions.many.program import SOUND, Program, RunError
 from pops_companions.many.progress import HowFar, Progress
 from pops_companions.many.remote_parts import RemoteParts
@@ -76,19 +76,18 @@ class Splitting:
         """Solves the parts: on other machines where there are any, else here, `jobs` at a time."""
         self._tell()
         with self._progress.beating():
-            self._run(there, jobs)
+            barred = self._run_there(there) if there is not None else set()
+            self._run_here([part for part in self._left() if part.key not in barred], jobs)
 
-    def _run(self, there: Optional[RemoteParts], jobs: int) -> None:
-        barred: list[Part] = []
-        if there is not None:
-            sent = [part for part in self._left() if Machines.takes(part.task)]
-            try:
-                there.run(sent, self._keep, self._is_needless)
-            except MachinesError as error:
-                barred = sent
-                self._fail(sent, str(error))
-        keys = {part.key for part in barred}
-        self._run_here([part for part in self._left() if part.key not in keys], jobs)
+    def _run_there(self, there: RemoteParts) -> set[Key]:
+        """Solves parts on other machines; returns the ones that failed because no machine is left."""
+        sent = [part for part in self._left() if Machines.takes(part.task)]
+        try:
+            there.run(sent, self._keep, self._is_needless)
+            return set()
+        except MachinesError as error:
+            self._fail(sent, str(error))
+            return {part.key for part in sent}
 
     def _fail(self, parts: Sequence[Part], reason: str) -> None:
         for part in parts:
