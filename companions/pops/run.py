@@ -95,7 +95,7 @@ class Run:
         self._counted = 0
         self._errors = tempfile.TemporaryFile()
         self._begun = time.monotonic()
-        self._child = program.begun([], self._errors)
+        self._child = program.begin([], self._errors)
         self._child.feed(text)
         self._timer = self._started_timer()
         self._events = self._read()

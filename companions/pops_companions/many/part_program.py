@@ -121,7 +121,7 @@ class PartProgram(Runs):
         RunError where it doesn't end well.
         """
         with tempfile.TemporaryFile() as errors:
-            child = self.begun(words, errors)
+            child = self.begin(words, errors)
             with self._lock:
                 self._at_work[first.key] = child
                 if first.key in self._dropped:

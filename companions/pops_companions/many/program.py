@@ -216,7 +216,7 @@ class Runs:
         child = self._started(words, subprocess.PIPE, subprocess.PIPE)
         return self._ended(child, text, seconds, spooled_if)
 
-    def begun(self, words: Sequence[str], errors: IO[bytes]) -> ChildProcess:
+    def begin(self, words: Sequence[str], errors: IO[bytes]) -> ChildProcess:
         """Starts a run that is read piece by piece; what it says goes to a file, up to MOST_ERRORS."""
         child = self._started(words, subprocess.PIPE, errors)
         child.limit_files(MOST_ERRORS)
