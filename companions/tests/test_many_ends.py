@@ -159,6 +159,9 @@ class Journals(SixProblems):
     def test_two_runs_never_share_a_journal(self) -> None:
         first = self.started(*self.words(self.stand_in("exec sleep 6000")))
         wait_for(lambda: self.kept() == 3)
+        # (until it sleeps it may read what it does, which is changed now)
+        (program,) = self.programs(first, 1)
+        wait_for(lambda: Path(f"/proc/{program}/cmdline").read_bytes().startswith(b"sleep"))
         outcome = self.many(self.stand_in(":"), "--resume")
         self.assertEqual(
             outcome, (2, b"", f"pops-many: {self.journal} is in use by another run\n")
