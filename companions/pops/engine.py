@@ -5,10 +5,10 @@ from pathlib import Path
 from typing import Optional, Union
 
 from pops.asynchronous import AsyncRun
-from pops.run import Limits, Run, Solver, TextKind
+from pops.run import Limits, Run, TextKind
 from pops_companions import places
 from pops_companions.input.writing import Problem
-from pops_companions.many.program import MissingError, find
+from pops_companions.many.program import MissingError, Runs, find
 from pops_companions.many.tries_program import find_tries
 
 UNKNOWN = "unknown"
@@ -57,8 +57,8 @@ class Engine:
         return AsyncRun(self.solve(posed, limits))
 
     def _begun(self, words: list[str], posed: Posed, limits: Optional[Limits]) -> Run:
-        solver = Solver(Path(self.program).name, [self.program, *self._words, *words])
-        return Run(solver, _bytes_of(posed), self._kind, limits or Limits())
+        program = Runs(Path(self.program).name, [self.program, *self._words, *words])
+        return Run(program, _bytes_of(posed), self._kind, limits or Limits())
 
 
 def _tries_program(named: Optional[str]) -> str:

@@ -1,5 +1,6 @@
 """A run of a program: its events as they come, its limits, its result."""
 
+import math
 import tempfile
 import threading
 import time
@@ -8,11 +9,9 @@ from collections.abc import Generator, Iterator
 from dataclasses import dataclass
 from enum import Enum
 from signal import SIGKILL
-from subprocess import PIPE
-from typing import IO, Optional, Union
+from typing import Optional, Union
 
-from pops_companions.many.child_process import ChildProcess
-from pops_companions.many.program import FAULTY, PAUSE, SOUND, RunError, Runs
+from pops_companions.many.program import FAULTY, SOUND, RunError, Runs
 from pops_companions.report import events
 from pops_companions.report.item_builder import ItemBuilder
 from pops_companions.report.items import AnyItem
@@ -38,9 +37,6 @@ class Ending(Enum):
     FAILED = "the program failed"
 
 
-# The bytes on standard error that end a program, and how many of them are passed on.
-_MOST_ERRORS = 1 << 26
-_MOST_SAID = 1 << 12
 # These end a run although the program has written more.
 _AT_ONCE = (Ending.CANCELLED, Ending.BYTES, Ending.SOLUTIONS)
 
@@ -56,6 +52,11 @@ class Limits:
     bytes: Optional[int] = None
     solutions: Optional[int] = None
 
+    def __post_init__(self) -> None:
+        """ValueError where the seconds are no number."""
+        if self.seconds is not None and math.isnan(self.seconds):
+            raise ValueError("the seconds of a run are no number")
+
 
 @dataclass(frozen=True)
 class Result:
@@ -70,25 +71,6 @@ class Result:
     items: tuple[Union[AnyItem, AnyTriesItem], ...]
 
 
-class Solver(Runs):
-    """A program that is begun for one run."""
-
-    def begin(self, text: bytes, errors: IO[bytes]) -> ChildProcess:
-        """Starts it on a text. RunError where it can't be started."""
-        child = self._started([], PIPE, errors)
-        child.limit_files(_MOST_ERRORS)
-        child.feed(text)
-        return child
-
-    def output(self, child: ChildProcess) -> Generator[bytes, None, None]:
-        """Yields what it writes, piece by piece."""
-        return self._output(child, lambda: PAUSE)
-
-    def reason(self, status: int, said: bytes) -> str:
-        """Returns why it failed."""
-        return self._reason(status, said, _MOST_ERRORS)
-
-
 class Run:
     """A run of a program on a text; iterating gives its events as they come.
 
@@ -96,8 +78,8 @@ class Run:
     does the end of this process.
     """
 
-    def __init__(self, solver: Solver, text: bytes, kind: TextKind, limits: Limits):
-        self._solver = solver
+    def __init__(self, program: Runs, text: bytes, kind: TextKind, limits: Limits):
+        self._program = program
         self._limits = limits
         self._lock = threading.Lock()
         self._reading = threading.Lock()
@@ -113,14 +95,17 @@ class Run:
         self._counted = 0
         self._errors = tempfile.TemporaryFile()
         self._begun = time.monotonic()
-        self._child = solver.begin(text, self._errors)
+        self._child = program.begin([], self._errors)
+        self._child.feed(text)
         self._timer = self._started_timer()
         self._events = self._read()
 
     def _started_timer(self) -> Optional[threading.Timer]:
         if self._limits.seconds is None:
             return None
-        self._child.limit(self._limits.seconds)
+        # (no thread waits longer, and no run takes as long)
+        seconds = min(self._limits.seconds, threading.TIMEOUT_MAX)
+        self._child.limit(seconds)
         stop = weakref.WeakMethod(self._stop)
 
         def end() -> None:
@@ -128,7 +113,7 @@ class Run:
             if found is not None:
                 found(Ending.SECONDS)
 
-        timer = threading.Timer(self._limits.seconds, end)
+        timer = threading.Timer(seconds, end)
         timer.daemon = True
         timer.start()
         return timer
@@ -182,7 +167,7 @@ class Run:
                 self._child.kill()
 
     def _read(self) -> Generator[events.Event, None, None]:
-        output = self._solver.output(self._child)
+        output = self._program.output(self._child)
         try:
             for piece in output:
                 yield from self._events_of(piece)
@@ -212,8 +197,7 @@ class Run:
             if self._ending is not None:
                 return None
             self._ending = Ending.FAILED
-            self._errors.seek(0)
-            return self._solver.reason(status, self._errors.read(_MOST_SAID))
+            return self._program.why(self._child, self._errors)
 
     def _is_out_of_time(self, status: int) -> bool:
         """Returns whether the limit of processor time ended the program, since the timer is late on a busy machine."""

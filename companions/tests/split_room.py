@@ -1,5 +1,6 @@
 """A room with a problem in many parts, and programs in the place of pops and pops-part."""
 
+import re
 from pathlib import Path
 
 from pops_companions.many.machines import PROBE
@@ -40,6 +41,12 @@ while [ $number -le ${{6##*.}} ]; do
   number=$((number + 1))
 done
 """
+
+
+def without_progress(outcome: support.Outcome) -> support.Outcome:
+    """What a run left, without how far it was: that is said where it takes long, as on a busy machine."""
+    far = r"(?m)^pops-many: problem .*: (?:about )?\d+ of \d+ first moves.*\n"
+    return outcome._replace(error=re.sub(far, "", outcome.error))
 
 
 class SplitRoom(SixProblems):
@@ -89,12 +96,12 @@ class SplitRoom(SixProblems):
         return words + list(more)
 
     def split(self, pops_part: str, *more: str) -> support.Outcome:
-        return support.companion("pops-many", *self.words_of_split(pops_part, *more))
+        return without_progress(support.companion("pops-many", *self.words_of_split(pops_part, *more)))
 
     def split_when_shown(self, pops_part: str, *more: str) -> support.Outcome:
         """Runs it in this process; the whole problem is cut once its first lines are written."""
         with limit_when_shown(self.room):
-            return run_here.companion("pops-many", *self.words_of_split(pops_part, *more))
+            return without_progress(run_here.companion("pops-many", *self.words_of_split(pops_part, *more)))
 
     def parts(self) -> list[str]:
         """The parts that were asked for, in that order."""

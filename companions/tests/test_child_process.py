@@ -151,6 +151,26 @@ class Ended(support.InRoom):
         os.close(reading)
         os.close(writing)
 
+    def test_a_process_that_closes_files_meanwhile(self) -> None:
+        """It holds the pipe still, although the first of its files is gone when it is looked at."""
+        reading, writing = os.pipe()
+        child = subprocess.Popen(["sh", "-c", "sleep 1800 & wait"], pass_fds=(reading,), start_new_session=True)
+        self.addCleanup(child.communicate)
+        self.addCleanup(sessions.end, child.pid)
+        wait_for(lambda: len(sessions.members(child.pid)) == 2)
+        (process,) = set(sessions.members(child.pid)) - {child.pid}
+        readlink = os.readlink
+
+        def but_the_first(path: str) -> str:
+            if path.endswith("/fd/0"):
+                raise FileNotFoundError
+            return readlink(path)
+
+        with mock.patch("os.readlink", but_the_first):
+            self.assertIn(process, sessions.of_run(0, "", sessions.name_of_pipe(reading)))
+        os.close(reading)
+        os.close(writing)
+
     def test_where_the_system_lists_no_processes(self) -> None:
         """What may start others isn't started."""
         script = self.write_program("program", f"#!/bin/sh\ntouch '{self.room}/begun'\n")
@@ -181,7 +201,6 @@ class Ended(support.InRoom):
         """It has its seconds after the last problem, and its output is taken."""
         bundle = tasks(input_of(MATE, MATE))
         child = self.begun(f"'{support.pops()}'; {_GROUP}", True)
-        child.feed(input_of(MATE, MATE))
 
         def is_out_of_time(run: BundleRun, now: float) -> bool:
             return run._whole == 2
@@ -196,7 +215,6 @@ class Ended(support.InRoom):
     def test_a_bundle_whose_output_is_closed(self) -> None:
         bundle = tasks(input_of(MATE, MATE))
         child = self.begun(f"exec >&-; {_GROUP}", True)
-        child.feed(b"")
         bundles = Bundles(bundle, 1)
         with mock.patch("pops_companions.many.bundle_run.MOMENT", 0.0):
             came = BundleRun(child, bundle, 0.05, bundles).go()

@@ -110,6 +110,14 @@ class Floods(support.InRoom):
                 with self.assertRaisesRegex(RunError, "it wrote more than"):
                     list(PartProgram(self.script(flood), 1).reports(Batch([part])))
 
+    def test_a_part_that_says_too_much(self) -> None:
+        """What it says goes to a file, which it would fill the disk with."""
+        part = Part(tasks_of([Source(None, MATE)])[0], "play", 1, 1)
+        says = self.script("exec head -c 2000000 /dev/zero >&2")
+        with mock.patch("pops_companions.many.program.MOST_ERRORS", 1 << 20):
+            with self.assertRaisesRegex(RunError, "^pops-part was ended: it wrote more than 1 MiB$"):
+                list(PartProgram(says, 1).reports(Batch([part])))
+
     def test_a_list_of_parts_with_long_numbers(self) -> None:
         listed = self.script(f"echo '1: play {'9' * 5000}'")
         with self.assertRaisesRegex(PartsError, "lists no parts"):

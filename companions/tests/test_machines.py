@@ -202,6 +202,14 @@ class OnMachines(support.InRoom):
         self.assertEqual((outcome.status, outcome.output), (0, support.run([support.pops()], text).output))
         self.assertRegex(outcome.error, rf"^pops-many: machine two left out: .*\n{ANOTHER.format('one')}$")
 
+    def test_a_program_here_that_fails(self) -> None:
+        """Nothing can be compared with what it reports."""
+        (self.room / "x.pop").write_bytes(input_of(MATE.format(1)))
+        fails = self.write_program("fails", "#!/bin/sh\nexit 9\n")
+        words = ["--pops", fails, "--sshlogin", ":", str(self.room / "x.pop")]
+        said = "pops-many: pops ended with status 9\n"
+        self.assertEqual(run_here.companion("pops-many", *words), (3, b"", said))
+
     def test_a_machine_that_floods_is_left_out(self) -> None:
         """It writes lines without end."""
         flood = self.write_program("flood", "#!/bin/sh\nexec yes '1 eAow'\n")

@@ -15,7 +15,7 @@ from unittest import mock
 
 from pops_companions.input.pieces import Rest, cut, rest_of
 from pops_companions.many.cutting import Pieces
-from pops_companions.many.identity import Known, identity
+from pops_companions.many.identity import Known
 from pops_companions.many.journal import Journal, Origin
 from pops_companions.many.progress import Progress, duration
 from pops_companions.many.tasks import Result, Source, Task
@@ -30,6 +30,11 @@ def solved(*words: str) -> tuple[int, bytes]:
     target = io.BytesIO()
     settings = MANY.arguments(["--pops", support.pops(), *words])
     return MANY.solve(settings, target), target.getvalue()
+
+
+def identity(program: str) -> str:
+    """A checksum of a program as it is now."""
+    return Known(program).identity
 
 
 class TextAfterTheEnd(unittest.TestCase):

@@ -3,6 +3,7 @@
 import io
 import os
 import pty
+import re
 import signal
 import subprocess
 import sys
@@ -97,9 +98,12 @@ class Signals(SixProblems):
 
     def test_an_ignored_hangup_stays_ignored(self) -> None:
         run = self.waiting(before=ignore_hangup)
+        # (a signal that is ignored leaves no trace that could be waited for)
+        ignored = re.search("SigIgn:\t(.*)", Path(f"/proc/{run.pid}/status").read_text())
+        assert ignored is not None
+        self.assertTrue(int(ignored[1], 16) >> (signal.SIGHUP - 1) & 1)
         run.send_signal(signal.SIGHUP)
-        with self.assertRaises(subprocess.TimeoutExpired):
-            run.wait(0.3)
+        self.assertIsNone(run.poll())
         run.send_signal(signal.SIGTERM)
         run.communicate(timeout=support.PATIENCE)
         self.assertEqual(run.returncode, 6)
@@ -155,6 +159,9 @@ class Journals(SixProblems):
     def test_two_runs_never_share_a_journal(self) -> None:
         first = self.started(*self.words(self.stand_in("exec sleep 6000")))
         wait_for(lambda: self.kept() == 3)
+        # (until it sleeps it may read what it does, which is changed now)
+        (program,) = self.programs(first, 1)
+        wait_for(lambda: Path(f"/proc/{program}/cmdline").read_bytes().startswith(b"sleep"))
         outcome = self.many(self.stand_in(":"), "--resume")
         self.assertEqual(
             outcome, (2, b"", f"pops-many: {self.journal} is in use by another run\n")

@@ -176,6 +176,15 @@ class Runs(support.InRoom):
         self.assertIs(result.ending, pops.Ending.SECONDS)
         self.assertEqual(result.text, b"problem 1\n")
 
+    def test_a_limit_of_more_seconds_than_a_thread_waits(self) -> None:
+        for seconds in (1e300, float("inf")):
+            with self.subTest(seconds), mock.patch("threading.excepthook") as failed:
+                result = self.engine.solve(PAIR, pops.Limits(seconds=seconds)).result
+                self.assertIs(result.ending, pops.Ending.COMPLETE)
+                failed.assert_not_called()
+        with self.assertRaises(ValueError):
+            pops.Limits(seconds=float("nan"))
+
     def test_limit_of_bytes(self) -> None:
         whole = self.engine.solve(PAIR).result.text
         for length in (0, 1, 50, len(whole) - 1):
@@ -211,7 +220,7 @@ class Runs(support.InRoom):
 
     def test_a_program_that_says_too_much(self) -> None:
         program = self.write_program("pops", "#!/bin/sh\ncat > /dev/null\nexec head -c 2000000 /dev/zero >&2\n")
-        with mock.patch("pops.run._MOST_ERRORS", 1 << 20):
+        with mock.patch("pops_companions.many.program.MOST_ERRORS", 1 << 20):
             with self.assertRaisesRegex(pops.RunError, "^pops was ended: it wrote more than 1 MiB$"):
                 list(pops.Engine(program).solve(PAIR))
 

@@ -23,8 +23,8 @@ from pops_companions.many.parts import (
     solutions_in,
     up_to_totals,
 )
-from pops_companions.many.child_process import Outcome
-from pops_companions.many.program import PAUSE, Program
+from pops_companions.many.child_process import PAUSE, Outcome
+from pops_companions.many.program import Program
 from pops_companions.many.progress import HowFar, Progress
 from pops_companions.many.split_problem import Cutting, Reader, SplitProblem
 from pops_companions.many.tasks import Source, Task, tasks_of

@@ -1,20 +1,19 @@
 """pops-many --split on other machines: parts that fail there, limits, and what is found of them."""
 
 import os
-import re
 import shutil
-import signal
-import time
+import threading
 import unittest
 from pathlib import Path
 from unittest import mock
 
 from pops_companions.many.machines import logins_of
 from pops_companions.many.parallel import machine_of
+from pops_companions.many.remote_parts import _decoded, _Round
 from tests import run_here, support
 from tests.shown_limit import limit_when_shown
 from tests.six_problems import wait_for
-from tests.split_room import SplitRoom
+from tests.split_room import SplitRoom, without_progress
 
 # In the place of ssh: the command runs here, and knows the machine that it was for.
 _SSH = """#!/bin/bash
@@ -38,10 +37,9 @@ class Machines(SplitRoom):
     def setUp(self) -> None:
         super().setUp()
         # (a busy machine takes no probe to the end of this time)
-        for module in ("machines", "remote_parts"):
-            patch = mock.patch(f"pops_companions.many.{module}.SECONDS_OF_A_PROBE", float(support.PATIENCE))
-            patch.start()
-            self.addCleanup(patch.stop)
+        patch = mock.patch("pops_companions.many.machines.SECONDS_OF_A_PROBE", float(support.PATIENCE))
+        patch.start()
+        self.addCleanup(patch.stop)
         self.where = f"problem 1 ({self.input}, line 1)"
 
     def words_there(self, pops_part: str, *more: str, logins: str = "one,2/two") -> list[str]:
@@ -51,11 +49,8 @@ class Machines(SplitRoom):
         return words
 
     def there(self, pops_part: str, *more: str, logins: str = "one,2/two") -> support.Outcome:
-        return support.companion("pops-many", *self.words_there(pops_part, *more, logins=logins))
-
-    def said(self, outcome: support.Outcome) -> str:
-        """What a run said, but for how far it was: that is said on a busy machine."""
-        return re.sub(r"(?m)^pops-many: problem .*: (?:about )?\d+ of \d+ first moves.*\n", "", outcome.error)
+        outcome = support.companion("pops-many", *self.words_there(pops_part, *more, logins=logins))
+        return without_progress(outcome)
 
     def is_solved(self, outcome: support.Outcome) -> None:
         self.assertEqual((outcome.status, outcome.output), (0, b""), outcome.error)
@@ -70,7 +65,7 @@ class Fails(Machines):
         outcome = self.there(self.pops_part("problem-play-2", then))
         self.is_solved(outcome)
         self.assertRegex(
-            self.said(outcome),
+            outcome.error,
             r"^pops-many: part 2 of the play of problem 1 \(.*, line 1\) failed on machine (one|two):"
             r" tried elsewhere: pops-part ended with status 7\n$",
         )
@@ -97,7 +92,7 @@ class Fails(Machines):
         words = self.words_there(self.pops_part(pattern, then), logins=logins)
         with mock.patch("pops_companions.many.remote_parts.MOST_OUTPUT", 1 << 12):
             with limit_when_shown(self.room):
-                return run_here.companion("pops-many", *words)
+                return without_progress(run_here.companion("pops-many", *words))
 
     def test_a_part_that_floods_is_tried_elsewhere(self) -> None:
         for flood in ("yes", "tr '\\0' x < /dev/zero | fold -w 900"):
@@ -106,7 +101,7 @@ class Fails(Machines):
                 outcome = self.flooded("problem-play-2", f"if {once}; then {flood}; fi", "one,2/two")
                 self.is_solved(outcome)
                 self.assertRegex(
-                    self.said(outcome),
+                    outcome.error,
                     r"^pops-many: part 2 of the play of problem 1 \(.*, line 1\) failed on machine (one|two):"
                     r" tried elsewhere: it wrote more than \d+ MiB\n$",
                 )
@@ -170,7 +165,7 @@ class Fails(Machines):
 
     def test_a_machine_that_hangs_at_its_probe_is_left_out(self) -> None:
         words = self.words_there(self.pops_part("probe-*", 'if [ "$MACHINE" ]; then sleep 6000; fi'))
-        with mock.patch("pops_companions.many.remote_parts.SECONDS_OF_A_PROBE", 1.0):
+        with mock.patch("pops_companions.many.machines.SECONDS_OF_A_PROBE", 1.0):
             outcome = run_here.companion("pops-many", *words)
         left_out = [f"machine {it} left out: no report came back in 1 s" for it in ("one", "2/two")]
         said = "".join(f"pops-many: {it}\n" for it in [*left_out, "no machine is left"])
@@ -254,25 +249,26 @@ class Limits(Machines):
 
 
 class Ends(Machines):
-    def lines_found(self, seconds: int) -> bytes:
-        """What is kept of a run that is stopped some seconds after its last part wrote two lines."""
+    def lines_found(self) -> bytes:
+        """What is kept of a run that is stopped once two lines of its last part came."""
         then = "echo 1.Kh8-g8; echo 1.Kh8-h7; printf 1.Kh; exec sleep 6000"
-        run = self.started(*self.words_there(self.pops_part("problem-play-5", then)))
-        wait_for(lambda: "play-5" in self.parts())
-        wait_for(lambda: self.journal.read_bytes().count(b"\npart 0 ") == 25)
-        time.sleep(seconds)
-        run.send_signal(signal.SIGTERM)
-        run.communicate(timeout=support.PATIENCE)
-        self.assertEqual(run.returncode, 6)
+        words = self.words_there(self.pops_part("problem-play-5", then))
+        take, came, stopped = _Round.take, set[bytes](), threading.Event()
+
+        def take_or_stop(now: _Round, line: bytes) -> None:
+            take(now, line)
+            came.add((_decoded(line) or (0, b""))[1])
+            kept = self.journal.read_bytes().count(b"\npart 0 ") if self.journal.exists() else 0
+            if came >= {b"1.Kh8-g8\n", b"1.Kh8-h7\n"} and kept == 25 and not stopped.is_set():
+                stopped.set()
+                raise KeyboardInterrupt
+
+        with mock.patch.object(_Round, "take", take_or_stop):
+            self.assertEqual(run_here.companion("pops-many", *words).status, 6)
         return self.rest.read_bytes()
 
     def test_what_was_found_there_is_kept(self) -> None:
-        # (GNU parallel looks for lines now and then, on a busy machine seldom)
-        for seconds in (3, 30, 300):
-            lines = self.lines_found(seconds)
-            if b"\n1.Kh8-h7\n" in lines:
-                break
-            self.forget()
+        lines = self.lines_found()
         self.assertIn(b"\n1.Kh8-g8\n1.Kh8-h7\n1.c7-c6 ", lines)
         self.assertIn(b"\nunfinished: stopped with 25 of 26 parts done (", lines)
         before = self.parts()

@@ -5,12 +5,12 @@ import signal
 import sys
 import unittest
 
-from pops_companions.many.identity import identity
+from pops_companions.many.identity import Known
 from pops_companions.many.journal import Journal, Origin, fingerprint
 from pops_companions.many.tasks import UNFINISHED, Result, Source, tasks_of
 from tests import run_here, support
 from tests.six_problems import SIX, wait_for
-from tests.split_room import SplitRoom
+from tests.split_room import SplitRoom, without_progress
 
 
 class Runs(SplitRoom):
@@ -75,7 +75,8 @@ class Runs(SplitRoom):
         words = self.words_of_split(self.pops_part(), "--each")
         words[words.index("-o") + 1] = str(folder)
         words.insert(words.index(str(self.input)), str(two))
-        self.assertEqual(support.companion("pops-many", *words), (1, b"", ""))
+        outcome = without_progress(support.companion("pops-many", *words))
+        self.assertEqual(outcome, (1, b"", ""))
         for path in (self.input, two):
             wanted = support.run([support.pops(), str(path)]).output
             self.assertEqual((folder / f"{path.stem}.report").read_bytes(), wanted)
@@ -224,7 +225,7 @@ class Ends(SplitRoom):
         self.input.write_bytes(text)
         wanted = support.run([support.pops(), str(self.input)]).output
         source = Source(str(self.input), text)
-        pops = identity(str(self.room / "stand_in")).encode("ascii")
+        pops = Known(str(self.room / "stand_in")).identity.encode("ascii")
         journal = Journal(str(self.journal), Origin(fingerprint([source], []), pops), False, 2, None)
         for task in tasks_of([source]):
             journal.keep(Result(task, UNFINISHED, b"", 1000.0))
@@ -257,7 +258,7 @@ class Ends(SplitRoom):
         self.assertIn(f"what was found of them is in {rest}\n", error)
         self.is_what_was_found(rest.read_bytes())
         words[words.index(program)] = self.pops_part()
-        outcome = support.companion("pops-many", *words, "--resume")
+        outcome = without_progress(support.companion("pops-many", *words, "--resume"))
         self.assertEqual(outcome, (0, self.wanted, ""))
         self.assertEqual(self.files(), [])
 

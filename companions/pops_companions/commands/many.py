@@ -24,9 +24,8 @@ from pops_companions.many.journal import Journal, JournalError, Origin, fingerpr
 from pops_companions.many.program import MissingError, Program, find, find_part_program
 from pops_companions.many.progress import Progress
 from pops_companions.many.running import Elsewhere, PartPrograms, Programs, Run
-from pops_companions.many.targets import Target
+from pops_companions.many.targets import Target, UnfinishedTarget
 from pops_companions.many.tasks import Input, Source, Tasks, tasks_of
-from pops_companions.many.unfinished import UnfinishedTarget
 from pops_companions.places import folder_above
 
 if TYPE_CHECKING:
@@ -68,9 +67,7 @@ def say_of_rests(inputs: Sequence[Input], progress: Progress) -> None:
                 progress.say(f"{source.shown}: {rest.text}")
 
 
-def reports_of(
-    settings: Settings, tasks: Tasks, run: bytes
-) -> list[Report]:
+def reports_of(settings: Settings, tasks: Tasks, journal: str, run: bytes) -> list[Report]:
     """Returns the reports that are to be written, with their files."""
     limited = settings.seconds is not None or settings.split or settings.resume
     links = Links.REPLACED if settings.each else Links.FOLLOWED
@@ -81,6 +78,8 @@ def reports_of(
             second = UnfinishedTarget(settings.unfinished, run)
         elif path and limited and (settings.each or settings.report):
             second = UnfinishedTarget(path + UNFINISHED, run, Links.REPLACED)
+        elif settings.split:
+            second = UnfinishedTarget(journal + UNFINISHED, run, Links.REPLACED)
         return Report(tasks, Target(path, run, links) if path else None, second)
 
     if not settings.each:
@@ -220,8 +219,9 @@ def elsewhere_of(
     options: list[str],
     programs: Programs,
     progress: Progress,
+    opened: ExitStack,
 ) -> Optional[Elsewhere]:
-    """Returns the programs on other machines, where any are asked for."""
+    """Returns the programs on other machines, where any are asked for; `opened` closes connections."""
     if not settings.sshlogin:
         return None
     # (what small runs don't need is loaded only where it is needed)
@@ -229,20 +229,19 @@ def elsewhere_of(
     from pops_companions.many.parallel import Parallel, ParallelError
     from pops_companions.many.remote_parts import RemoteParts
 
-    say, pops_part = progress.say, settings.remote_pops_part or "pops-part"
-    with ExitStack() as opened:
-        try:
-            parallel = Parallel(settings.jobs, settings.ssh, say)
-            opened.callback(parallel.close)
-            names = [settings.remote_pops, *([pops_part] if programs.parts is not None else [])]
-            machines = Machines(settings.sshlogin, parallel, names, options, programs.whole, say)
-            there = None
-            if programs.parts is not None:
-                there = RemoteParts(machines, parallel, pops_part, programs.parts.parts, say)
-        except (MachinesError, ParallelError) as error:
-            raise CommandError(Status.DEVICE, str(error)) from None
-        opened.pop_all()
-    return Elsewhere(machines, there)
+    say, parts = progress.say, programs.parts.parts if programs.parts is not None else None
+    pops_part = settings.remote_pops_part or "pops-part"
+    names = [settings.remote_pops, *([pops_part] if parts is not None else [])]
+    try:
+        parallel = Parallel(settings.jobs, settings.ssh, say)
+        opened.callback(parallel.close)
+        here = (programs.whole, parts)
+        machines = Machines(settings.sshlogin, parallel, options, names, here, say)
+    except (MachinesError, ParallelError) as error:
+        raise CommandError(Status.DEVICE, str(error)) from None
+    if parts is None:
+        return Elsewhere(machines, None)
+    return Elsewhere(machines, RemoteParts(machines, parallel, pops_part, parts, say))
 
 
 class Files(NamedTuple):
@@ -288,28 +287,19 @@ class Solving:
         settings = self._settings
         journal_path = path_of_journal(settings)
         name = name_of_run(journal_path, self._name)
-        reports = reports_of(settings, self._tasks, name)
-        if settings.split:
-            second = UnfinishedTarget(journal_path + UNFINISHED, name, Links.REPLACED)
-            reports = [it._replace(unfinished=it.unfinished or second) for it in reports]
+        reports = reports_of(settings, self._tasks, journal_path, name)
         files = Files(reports, Target(settings.index, name) if settings.index else None)
         written: list[Optional[str]] = [*(file.path for file in files.targets), journal_path]
         written += [None] * any(report.file is None for report in reports)
         command.refuse_shared(settings.files, written)
         refuse_foreign(reports)
-        elsewhere = elsewhere_of(settings, self._options, self._programs, self._progress)
-        try:
+        with ExitStack() as opened:
+            programs, progress = self._programs, self._progress
+            elsewhere = elsewhere_of(settings, self._options, programs, progress, opened)
             return self._solve(files, journal_path, output, elsewhere)
-        finally:
-            if elsewhere is not None:
-                elsewhere.machines.close()
 
     def _solve(
-        self,
-        files: Files,
-        journal_path: str,
-        output: BinaryIO,
-        elsewhere: Optional[Elsewhere],
+        self, files: Files, journal_path: str, output: BinaryIO, elsewhere: Optional[Elsewhere]
     ) -> int:
         settings = self._settings
         origin = Origin(self._name, self._known[0].identity.encode("ascii"))
@@ -332,17 +322,13 @@ class Solving:
             journal.close(kept=True)
             raise
 
-    def _refuse_changed(self, journal: Journal) -> None:
-        """Ends the run where one of its programs here was changed meanwhile."""
-        for program in self._known:
-            if program.is_changed:
-                raise ChangedError(program.program, journal)
-
-    def _refuse_changed_elsewhere(self, journal: Journal, where: Optional[Elsewhere]) -> None:
-        """Ends the run where a program on another machine was changed meanwhile."""
-        program = where.machines.changed() if where is not None else None
-        if program is not None:
-            raise ChangedError(program, journal)
+    def _refuse_changed(self, journal: Journal, elsewhere: Optional[Elsewhere] = None) -> None:
+        """Ends the run where one of its programs was changed meanwhile, here or on another machine."""
+        changed = next((it.program for it in self._known if it.is_changed), None)
+        if changed is None and elsewhere is not None:
+            changed = elsewhere.machines.changed()
+        if changed is not None:
+            raise ChangedError(changed, journal)
 
     def _go(
         self, journal: Journal, joined: Joined, index: Optional[Target], where: Optional[Elsewhere]
@@ -356,8 +342,7 @@ class Solving:
                 run.go(where, self._jobs)
             finally:
                 kept_in = joined.write_unfinished()
-            self._refuse_changed(journal)
-            self._refuse_changed_elsewhere(journal, where)
+            self._refuse_changed(journal, where)
             joined.write_held()
             if joined.complete and index is not None:
                 write_index(index, self._tasks, journal)

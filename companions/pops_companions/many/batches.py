@@ -97,6 +97,11 @@ class Batches:
         # (a list: another thread may change them meanwhile)
         return [now - batch.since for batch in list(self._running) if len(batch)]
 
+    @property
+    def at_work(self) -> list[list[Part]]:
+        """The parts that are left of each running batch."""
+        return [batch.left for batch in self._running]
+
     def end(self, batch: Batch) -> None:
         """Notes that the run of a batch ended."""
         self._running.remove(batch)

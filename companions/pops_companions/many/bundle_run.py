@@ -1,21 +1,15 @@
 """A run of pops on a bundle: reads what it writes, and ends it once it has done what is wanted."""
 
-import os
-import select
-import subprocess
 import time
 from collections.abc import Sequence
-from contextlib import suppress
+from contextlib import closing
 from typing import NamedTuple, Optional
 
-from pops_companions.many.bundles import MOMENT, Bundles, items_in
-from pops_companions.many.child_process import ChildProcess, rest_of
+from pops_companions.many.bundles import MOMENT, Bundles, items_in, text_of
+from pops_companions.many.child_process import ChildProcess
 from pops_companions.many.tasks import UNFINISHED, Result, Task, whole_lines
 from pops_companions.report import lines
 
-# In milliseconds: a program that writes line by line is read after pauses.
-_PAUSE = 20
-_PIECE = 1 << 16
 # The most bytes of its report: a problem that has more is solved alone.
 _MOST_WRITTEN = 1 << 26
 # The statuses of runs that wrote every byte of their report.
@@ -46,11 +40,8 @@ class BundleRun:
         self._tasks = tasks
         self._seconds = seconds
         self._bundles = bundles
-        # What was written, when each piece came, and how many pieces were looked through.
         self._written: list[bytes] = []
-        self._times: list[float] = []
         self._left = _MOST_WRITTEN
-        self._seen = 0
         # How many problems are whole in these, and since when the next one is at work.
         self._whole = 0
         self._begun = self._since = time.monotonic()
@@ -60,74 +51,30 @@ class BundleRun:
 
     def go(self) -> Came:
         """Reads until the end of the run."""
-        assert self._child.run.stdout is not None
-        output = self._child.run.stdout.fileno()
-        try:
-            if self._read(output):
-                self._wait()
-            if self._child.is_killed:
-                self._child.end()
-                self._written.append(rest_of(output))
-        except BaseException:
-            self._child.kill()
-            raise
-        finally:
-            self._child.run.stdout.close()
-            self._child.wait()
-            self._child.release()
+        text = text_of(self._tasks)
+        with closing(self._child.pieces(text, self._milliseconds)) as pieces:
+            for _, piece in pieces:
+                if piece:
+                    self._take(piece)
+                if self._left < 0 or self._is_over():
+                    self._child.kill()
         return self._came()
 
-    def _read(self, output: int) -> bool:
-        """Reads until the end of its output, or until it is killed; returns whether it isn't."""
-        ready, end = select.poll(), select.poll()
-        ready.register(output, select.POLLIN)
-        ready.register(self._child.woken, select.POLLIN)
-        # (without an event of its own it reports only the end)
-        end.register(output, 0)
-        while not self._is_over():
-            came = ready.poll(self._milliseconds())
-            if self._child.is_killed:
-                return False
-            if not came:
-                continue
-            piece = os.read(output, _PIECE)
-            if not piece:
-                return True
-            self._written.append(piece)
-            self._times.append(time.monotonic())
-            self._left -= len(piece)
-            if self._left < 0:
-                break
-            if len(piece) < _PIECE // 2:
-                end.poll(_PAUSE)
-        self._child.kill()
-        return False
-
-    def _wait(self) -> None:
-        """Waits for the end of a program that has closed its output, as long as it has time."""
-        while not self._is_over():
-            milliseconds = None if self._seconds is None else self._milliseconds()
-            with suppress(subprocess.TimeoutExpired):
-                self._child.run.wait(milliseconds and milliseconds / 1000)
-                return
-        self._child.kill()
-
-    def _look(self) -> None:
-        """Looks through what came since the last look, for which problem is at work."""
-        for piece, came in zip(self._written[self._seen :], self._times[self._seen :]):
-            last = self._written[self._seen - 1][-1:] if self._seen else b""
-            ends = piece.count(lines.ITEM_END) + (last + piece[:1] == lines.ITEM_END)
-            self._seen += 1
-            if ends:
-                self._whole += ends
-                self._since = came
+    def _take(self, piece: bytes) -> None:
+        """Takes a piece, and notes which problem is at work."""
+        last = self._written[-1][-1:] if self._written else b""
+        ends = piece.count(lines.ITEM_END) + (last + piece[:1] == lines.ITEM_END)
+        self._written.append(piece)
+        self._left -= len(piece)
+        if ends:
+            self._whole += ends
+            self._since = time.monotonic()
 
     def _is_over(self) -> bool:
         """Returns whether the run is to be ended; after a moment gives back what can be."""
         now = time.monotonic()
         if self._seconds is None and now - self._begun < MOMENT:
             return False
-        self._look()
         if self._whole >= len(self._tasks):
             return self._is_cut or self._is_out_of_time(now)
         self._is_late = self._is_out_of_time(now)
@@ -157,14 +104,8 @@ class BundleRun:
         # (rounded up, so that then the time is over)
         return 1000 * max(min(until) - time.monotonic(), 0) + 1 if until else None
 
-    def _note(self, count: int) -> None:
-        """Notes how long its problems took, of which this many are whole; of one that took longer than
-        a moment, that it did.
-        """
-        if count == len(self._tasks) and self._times and not self._is_cut:
-            self._bundles.note(count, self._times[-1] - self._begun)
-            return
-        self._look()
+    def _note(self) -> None:
+        """Notes how long its whole problems took; of one that took longer than a moment, that it did."""
         if self._whole:
             self._bundles.note(self._whole, self._since - self._begun)
         else:
@@ -175,7 +116,7 @@ class BundleRun:
         report = b"".join(self._written)
         status = self._child.run.returncode
         items = items_in(report, self._tasks, self._is_cut)
-        self._note(0 if items is None else items.number)
+        self._note()
         is_ended = status in _WELL and not self._is_late
         if items is None or (is_ended and items.number < len(self._tasks)):
             self._bundles.give_back_apart(self._tasks[1:])

@@ -18,13 +18,12 @@ import math
 import os
 import resource
 import select
-import selectors
 import signal
 import subprocess
 import threading
 import time
-from collections.abc import Sequence
-from contextlib import suppress
+from collections.abc import Callable, Generator, Sequence
+from contextlib import closing, suppress
 from typing import IO, NamedTuple, Optional, Union
 
 from pops_companions.many import sessions
@@ -36,6 +35,9 @@ _ROOM = 1 << 16
 MOST_ROOM = 1 << 20
 _SET_ROOM, _GET_ROOM = 1031, 1032
 
+# What a run writes is read after pauses of this many milliseconds, unless it ends sooner or writes
+# much: it writes line by line, and waking for each line would cost more than the search.
+PAUSE = 20
 # The number of standard error.
 _LAST_STREAM = 2
 # The processor time after which a program ends that outlives its seconds, in seconds beyond them.
@@ -80,37 +82,39 @@ class _Output:
         """Without an expected beginning, none is in a file."""
         self._spooled_if = spooled_if
         self._memory = io.BytesIO()
-        self._size = 0
         self.file: Optional[IO[bytes]] = None
 
     def write(self, piece: bytes) -> None:
         """OutputError where it is more than is kept; OSError where the file can't be written."""
-        (self.file or self._memory).write(piece)
-        self._size += len(piece)
-        if self._size > MOST_OUTPUT and self.file is None:
+        kept = self.file or self._memory
+        kept.write(piece)
+        if kept.tell() > MOST_OUTPUT and self.file is None:
             self._spool()
-        if self._size > MOST_SPOOLED:
+        if kept.tell() > MOST_SPOOLED:
             raise OutputError(MOST_SPOOLED)
 
     def _spool(self) -> None:
-        begun = self._memory.getbuffer()
-        expected = self._spooled_if
-        if expected is None or begun[: len(expected)] != expected:
+        begun, self._memory = self._memory.getvalue(), io.BytesIO()
+        if self._spooled_if is None or not begun.startswith(self._spooled_if):
             raise OutputError
         # (loaded only by runs that need it)
         import tempfile
 
         self.file = tempfile.TemporaryFile()
         self.file.write(begun)
-        begun.release()
-        self._memory = io.BytesIO()
 
     def value(self) -> bytes:
         """Returns what is in memory, and lets the file be read."""
         if self.file is not None:
             self.file.flush()
-        # (a text that isn't shared takes no second copy)
         return self._memory.getvalue()
+
+
+class _Said(io.BytesIO):
+    """What a program says, of which only the first is kept."""
+
+    def write(self, piece: bytes) -> int:  # type: ignore[override]
+        return super().write(piece[: MOST_SAID - self.tell()])
 
 
 class ChildProcess:
@@ -163,57 +167,81 @@ class ChildProcess:
         is ended. OutputError where it writes too much: more than memory takes, if it doesn't begin with
         `spooled_if`.
         """
-        until = None
+        until = left = None
         if seconds is not None:
             self.limit(seconds)
             until = time.monotonic() + seconds
-        output, errors = _Output(spooled_if), io.BytesIO()
-        try:
-            if self.run.stdin is not None:
-                self.feed(text or b"")
-            with selectors.DefaultSelector() as streams:
-                streams.register(self.woken, selectors.EVENT_READ)
-                for stream, kept in ((self.run.stdout, output), (self.run.stderr, errors)):
-                    if stream is not None:
-                        streams.register(stream, selectors.EVENT_READ, kept)
-                in_time = self._take(streams, until)
-                if not in_time:
+
+        def wait() -> Optional[float]:
+            nonlocal left
+            left = self._left(until)
+            return None if left is None else 1000 * left
+
+        output, errors, in_time = _Output(spooled_if), _Said(), True
+        with closing(self.pieces(text or b"", wait)) as pieces:
+            for stream, piece in pieces:
+                (errors if stream is self.run.stderr else output).write(piece)
+                if left == 0:
+                    in_time = False
                     self.kill()
+        written, said = output.value(), errors.getvalue()
+        return Outcome(self.run.returncode, written, said, in_time, output.file)
+
+    def pieces(
+        self,
+        text: Optional[bytes] = None,
+        wait: Callable[[], Optional[float]] = lambda: None,
+        pause: Callable[[], int] = lambda: PAUSE,
+    ) -> Generator[tuple[Stream, bytes], None, None]:
+        """Feeds the program, and yields the pieces that it writes and their streams, after pauses; an
+        empty piece where nothing came for as long as `wait` says. Both are in milliseconds. At the end
+        the program has ended: it is killed where it isn't read on.
+        """
+        streams = {it.fileno(): it for it in (self.run.stdout, self.run.stderr) if it is not None}
+        ready, end = select.poll(), select.poll()
+        ready.register(self._watched, select.POLLIN)
+        for handle in streams:
+            ready.register(handle, select.POLLIN)
+            # (without an event of its own it reports only the end)
+            end.register(handle, 0)
+        is_read = False
+        try:
+            if self.run.stdin is not None and text is not None:
+                self.feed(text)
+            while not self.is_killed and (streams or self.run.returncode is None):
+                came = ready.poll(wait()) if streams else self._end_in(wait())
                 if self.is_killed:
-                    self.end()
-                    _take_rest(streams)
-            written, said = output.value(), errors.getvalue()
-            return Outcome(self.run.returncode, written, said, in_time, output.file)
-        except BaseException:
-            self.end()
-            raise
+                    break
+                if not came and self.run.returncode is None:
+                    yield None, b""
+                is_short = True
+                for handle, _ in came:
+                    if piece := os.read(handle, _PIECE):
+                        is_short = is_short and len(piece) < _PIECE // 2
+                        yield streams[handle], piece
+                    else:
+                        ready.unregister(handle)
+                        end.unregister(handle)
+                        del streams[handle]
+                if came and is_short and streams:
+                    end.poll(pause())
+            if self.is_killed:
+                self.end()
+                yield from ((stream, rest_of(handle)) for handle, stream in streams.items())
+            is_read = True
         finally:
+            if not is_read or self.is_killed:
+                self.end()
             for opened in (self.run.stdout, self.run.stderr):
                 if opened is not None:
                     opened.close()
             self.release()
 
-    def _take(self, streams: selectors.BaseSelector, until: Optional[float]) -> bool:
-        """Takes what the program writes until it has ended or is killed, or until its time is over;
-        returns whether it has time left.
-
-        OutputError where it writes beyond the most.
-        """
-        while (left := self._left(until)) is None or left > 0:
-            if len(streams.get_map()) == 1:
-                with suppress(subprocess.TimeoutExpired):
-                    self.run.wait(left)
-                    return True
-                continue
-            for key, _ in streams.select(left):
-                if self.is_killed:
-                    return True
-                piece = os.read(key.fd, _PIECE)
-                if piece:
-                    _keep(piece, key.data)
-                else:
-                    streams.unregister(key.fileobj)
-        return False
+    def _end_in(self, milliseconds: Optional[float]) -> list[tuple[int, int]]:
+        """Waits for the program's end, for some time at most; nothing has come then."""
+        with suppress(subprocess.TimeoutExpired):
+            self.run.wait(None if milliseconds is None else milliseconds / 1000)
+        return []
 
     def _left(self, until: Optional[float]) -> Optional[float]:
         """Returns the seconds that the program has left, if it has a limit."""
@@ -253,11 +281,6 @@ class ChildProcess:
         except BrokenPipeError:
             pass
 
-    @property
-    def woken(self) -> int:
-        """A handle that can be read once the program is killed, for those who wait for its output."""
-        return self._watched
-
     def processes(self) -> list[int]:
         """Returns the processes of its session, and those that left it with its mark or its pipe."""
         return sessions.of_run(self.run.pid, self._mark, self._pipe)
@@ -292,12 +315,6 @@ class ChildProcess:
             sessions.end(self.run.pid, self._mark, self._pipe)
         self.run.wait()
 
-    def wait(self) -> None:
-        """Waits for the program's end; ends its whole session if it is killed."""
-        self.run.wait()
-        if self.is_killed:
-            self.end()
-
     def release(self) -> None:
         """Gives up the hold on the program, once it has ended."""
         with self._lock:
@@ -308,19 +325,7 @@ class ChildProcess:
         os.close(self._watched)
         os.close(self._held)
         if self._watcher is not None:
-            self._watcher.end()
-
-
-def _keep(piece: bytes, kept: "Union[_Output, io.BytesIO]") -> None:
-    """Keeps what a program wrote or said; what it says beyond the most is dropped."""
-    kept.write(piece[: MOST_SAID - kept.tell()] if isinstance(kept, io.BytesIO) else piece)
-
-
-def _take_rest(streams: selectors.BaseSelector) -> None:
-    """Takes what is left in the pipes of a program that is killed."""
-    for key in streams.get_map().values():
-        if key.data is not None:
-            _keep(rest_of(key.fd), key.data)
+            self._watcher.close()
 
 
 def rest_of(pipe: int) -> bytes:

@@ -151,33 +151,6 @@ def _has_come(handles: list[int], milliseconds: Optional[int] = None) -> list[in
     return [handle for handle, _ in poll.poll(milliseconds)]
 
 
-class Alone:
-    """This process in place of copies of it."""
-
-    def __init__(self, work: Work):
-        self._work = work
-        self._is_stopped = False
-
-    def __enter__(self) -> "Alone":
-        return self
-
-    def __exit__(self, *_: object) -> None:
-        pass
-
-    def stop(self) -> None:
-        """The pieces that are left have no results."""
-        self._is_stopped = True
-
-    def results(self, pieces: Iterator[bytes]) -> Iterator[tuple[bytes, Optional[bytes]]]:
-        """Yields each piece with its result; without one, where the work failed on it."""
-        for piece in pieces:
-            result = None
-            if not self._is_stopped:
-                with suppress(Exception):
-                    result = self._work(piece)
-            yield piece, result
-
-
 class Copies:
     """Copies of this process for one kind of work."""
 
@@ -210,35 +183,30 @@ class Copies:
         two copies were ended on it, or none is left.
         """
         done: dict[int, tuple[bytes, Optional[bytes]]] = {}
+        numbered = enumerate(pieces)
         shown = given = 0
         is_over = False
         while not is_over or shown < given:
-            idle = [it for it in self._copies if it.piece is None]
-            if self._again and (idle or not self._copies):
-                number, piece_again = self._again.pop()
-                if idle:
-                    idle[0].give((number, piece_again))
+            room = 1 + _MOST_AHEAD * len(self._copies) - (given - shown)
+            while self._again or (room > 0 and not is_over):
+                idle = next((it for it in self._copies if it.piece is None), None)
+                if self._copies and idle is None:
+                    break
+                piece = self._again.pop() if self._again else next(numbered, None)
+                if piece is None:
+                    is_over = True
+                    continue
+                if piece[0] == given:
+                    given, room = given + 1, room - 1
+                if idle is not None:
+                    idle.give(piece)
                 else:
-                    done[number] = (piece_again, None)
-                continue
-            if not is_over and (idle or not self._copies) and given - shown <= self._most_ahead:
-                piece = next(pieces, None)
-                is_over = piece is None
-                if piece is not None and idle:
-                    idle[0].give((given, piece))
-                elif piece is not None:
-                    done[given] = (piece, None)
-                given += piece is not None
-                continue
-            if shown not in done:
+                    done[piece[0]] = (piece[1], None)
+            if shown not in done and shown < given:
                 done.update(self._ready())
             while shown in done:
                 yield done.pop(shown)
                 shown += 1
-
-    @property
-    def _most_ahead(self) -> int:
-        return _MOST_AHEAD * len(self._copies)
 
     def _ready(self) -> Iterator[tuple[int, tuple[bytes, Optional[bytes]]]]:
         """Waits for a result; yields the ones that are there. A copy that was ended gets no more, and
@@ -258,3 +226,23 @@ class Copies:
                 self._again.append((number, piece))
             else:
                 yield number, (piece, result)
+
+
+class Alone(Copies):
+    """This process in place of copies of it."""
+
+    def __init__(self, work: Work):
+        super().__init__(work, 0)
+        self._work: Optional[Work] = work
+
+    def stop(self) -> None:
+        """The pieces that are left have no results."""
+        self._work = None
+
+    def results(self, pieces: Iterator[bytes]) -> Iterator[tuple[bytes, Optional[bytes]]]:
+        """Yields each piece with its result; without one, where the work failed on it."""
+        for piece in pieces:
+            result = None
+            with suppress(Exception):
+                result = self._work(piece) if self._work is not None else None
+            yield piece, result

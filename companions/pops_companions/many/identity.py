@@ -49,12 +49,8 @@ class Known:
         return self._was_another
 
 
-def identity(program: str) -> str:
-    """Returns a checksum of a program, for a script also of the programs that are named in its text."""
-    return _identity_of(_files(program))
-
-
 def _identity_of(files: Mapping[str, _File]) -> str:
+    """Returns a checksum of a program, for a script also of the programs that are named in its text."""
     sums = [file.checksum for file in files.values()]
     return sums[0] if len(sums) == 1 else hashlib.sha256("\n".join(sums).encode("ascii")).hexdigest()
 

@@ -6,9 +6,8 @@ from typing import BinaryIO, NamedTuple, Optional
 
 from pops_companions import files
 from pops_companions.many.journal import Journal, Kept
-from pops_companions.many.targets import Target
+from pops_companions.many.targets import Target, UnfinishedTarget
 from pops_companions.many.tasks import Task, Tasks
-from pops_companions.many.unfinished import UnfinishedTarget
 from pops_companions.report import lines
 
 _COLUMNS = ("start", "bytes", "status", "problem", "line", "file")

@@ -27,8 +27,9 @@ if TYPE_CHECKING:
 
 _ANY_HEAD = b"pops-many journal "
 _HEAD = _ANY_HEAD + b"4 "
-_RECORD = re.compile(rb"task (\d+) status (\d+)(?: seconds (\d+\.\d+))? bytes (\d+)")
-_RECORD_OF_SOME = re.compile(rb"tasks (\d+) number (\d+) status (\d+) bytes (\d+)")
+_RECORD = re.compile(
+    rb"tasks? (\d+)(?: number (\d+))? status (\d+)(?: seconds (\d+\.\d+))? bytes (\d+)"
+)
 _PART = re.compile(rb"part (\d+) (set|play) (\d+) depth (\d+) bytes (\d+)")
 _PROGRAM = re.compile(rb"program ([0-9a-f]{64}) ([0-9a-f]{64}) bytes (0)")
 _SUM = b" sum "
@@ -195,9 +196,9 @@ class Journal:
         """Reads a record; False at the end of those that are whole."""
         line = self._file.readline(_LONGEST_HEAD)
         head = line.rpartition(_SUM)[0]
-        of_task, of_some = _RECORD.fullmatch(head), _RECORD_OF_SOME.fullmatch(head)
+        of_tasks = _RECORD.fullmatch(head)
         of_part, of_program = _PART.fullmatch(head), _PROGRAM.fullmatch(head)
-        found = of_task or of_some or of_part or of_program
+        found = of_tasks or of_part or of_program
         if found is None:
             return False
         start, length = self._file.tell(), int(found.groups()[-1])
@@ -206,19 +207,17 @@ class Journal:
         if line != _with_sum(head, self._pieces(start, length)):
             return False
         self._file.seek(start + length)
-        if of_task:
-            seconds = None if of_task[3] is None else float(of_task[3])
-            return self._note(int(of_task[1]), Kept(int(of_task[2]), seconds, start, length))
-        if of_some:
-            place, tasks, status = (int(part) for part in of_some.group(1, 2, 3))
-            if not _has_items(b"".join(self._pieces(start, length)), tasks):
+        if of_tasks:
+            place, number, status, seconds, _ = of_tasks.groups()
+            if number and not _has_items(b"".join(self._pieces(start, length)), int(number)):
                 return False
-            return self._note(place, Kept(status, None, start, length, tasks))
+            had = float(seconds) if seconds else None
+            return self._note(int(place), Kept(int(status), had, start, length, int(number or 1)))
         if of_part:
             from pops_companions.many.parts import Key
 
-            place, number, depth = (int(part) for part in of_part.group(1, 3, 4))
-            key = Key(place, of_part[2].decode("ascii"), number, depth)
+            phase = of_part[2].decode("ascii")
+            key = Key(int(of_part[1]), phase, int(of_part[3]), int(of_part[4]))
             self.parts[key] = Kept(0, None, start, length)
         if of_program:
             self._programs[of_program[1]] = of_program[2]
@@ -246,11 +245,9 @@ class Journal:
         """
         self.refuse()
         place, report = result.task.place, _report_of(result)
-        if result.tasks > 1:
-            head = b"tasks %d number %d status %d" % (place, result.tasks, result.status)
-        else:
-            seconds = b"" if result.seconds is None else b" seconds %f" % result.seconds
-            head = b"task %d status %d%s" % (place, result.status, seconds)
+        of = b"tasks %d number %d" % (place, result.tasks) if result.tasks > 1 else b"task %d" % place
+        seconds = b"" if result.seconds is None else b" seconds %f" % result.seconds
+        head = b"%s status %d%s" % (of, result.status, seconds)
         start, length = self._add(head, report)
         self._note(place, Kept(result.status, result.seconds, start, length, result.tasks))
         if result.spooled is not None:

@@ -21,8 +21,10 @@ from pops_companions import places
 from pops_companions.input.words import short_forms
 from pops_companions.many.bundles import items_in, neighbours, text_of
 from pops_companions.many.parallel import Ended, Jobs, Parallel, machine_of
+from pops_companions.many.part_program import PartProgram
+from pops_companions.many.parts import Part
 from pops_companions.many.program import FAULTY, SOUND, Program, RunError
-from pops_companions.many.tasks import UNFINISHED, Result, Task, is_whole
+from pops_companions.many.tasks import UNFINISHED, Result, Source, Task, is_whole, tasks_of
 
 # A longer problem would not fit into a word of a command line; it is solved on this machine.
 _LONGEST_WORD = 60_000
@@ -43,14 +45,19 @@ _SCRIPT = (
     '*) timeout --foreground "$2" "$0" {options} ;; esac; printf "\\n%d" "$?"; }} | base64 -w 0; '
     "echo; shift 3; done"
 )
-# Writes the checksums of programs, as an input of another number: `$0` and others.
+# Writes what pops-part reports of a part, and the checksums of programs, as inputs of other numbers.
+_PART = (
+    '; printf "1 "; {{ printf %s {text} | base64 -d | {name} --item 1 --phase play --part 1 --depth {depth};'
+    ' printf "\\n%d" "$?"; }} | head -c {most} | base64 -w 0; echo'
+)
 _CHECKSUMS = (
-    '; printf "1 "; {{ for it in "$0" {others}; do '
+    '; printf "2 "; {{ for it in {names}; do '
     'printf "%s\\n" "$(sha256sum < "$(command -v "$it")" | cut -c 1-64)"; done; printf 0; }} 2> /dev/null'
     " | base64 -w 0; echo"
 )
+_NUMBER_OF_CHECKSUMS = 2
 _CHECKSUM = re.compile(r"[0-9a-f]{64}")
-# The programs on a machine, in the order of their checksums.
+# The programs on a machine, in the order of their reports and checksums.
 _PROGRAMS = ("pops", "pops-part")
 NO_REPORT_IN_TIME = "no report came back in {:g} s"
 _WITHOUT_LIMIT = "-"
@@ -238,22 +245,15 @@ class _Probe:
     def __init__(self) -> None:
         self._until = time.monotonic() + SECONDS_OF_A_PROBE
         self._come = 0
-        self._report: Optional[bytes] = None
-        # The checksums of its programs; empty where one isn't known.
-        self.checksums: list[str] = []
+        # The status and the text that came of each number.
+        self._answers: dict[int, tuple[int, bytes]] = {}
 
     def take(self, line: bytes) -> None:
         """Takes a line that came back."""
         self._come += len(line)
         answer = _decoded(line)
-        if answer is None:
-            return
-        number, status, text = answer
-        if number == 0 and status in (SOUND, FAULTY):
-            self._report = text
-        elif number == 1:
-            sums = text.decode("ascii", "replace").split("\n")
-            self.checksums = [it if _CHECKSUM.fullmatch(it) else "" for it in sums]
+        if answer is not None:
+            self._answers[answer[0]] = answer[1:]
 
     def look(self, _: Sequence[Ended]) -> bool:
         """Returns whether the probe goes on."""
@@ -264,58 +264,87 @@ class _Probe:
         return time.monotonic() > self._until
 
     @property
-    def report(self) -> Optional[bytes]:
-        """What the machine reports of the problem; None where no report came back, or much more."""
-        return self._report if self._come <= MOST_OF_A_PROBE else None
+    def checksums(self) -> list[str]:
+        """The checksums of the machine's programs; empty where one isn't known."""
+        _, text = self._answers.get(_NUMBER_OF_CHECKSUMS, (SOUND, b""))
+        sums = text.decode("ascii", "replace").split("\n")
+        return [it if _CHECKSUM.fullmatch(it) else "" for it in sums]
+
+    def fault(self, wanted: Sequence[bytes]) -> Optional[str]:
+        """Returns why the machine's programs don't report what is wanted of them; nothing where a report
+        is missing, and None where they do.
+        """
+        for number, (name, report) in enumerate(zip(_PROGRAMS, wanted)):
+            if number not in self._answers or self._come > MOST_OF_A_PROBE:
+                return NO_REPORT_IN_TIME.format(SECONDS_OF_A_PROBE) if self.is_late else ""
+            status, text = self._answers[number]
+            if status not in (SOUND, FAULTY):
+                return f"{name} ended with status {status}"
+            if text != report:
+                return f"its {name} gives another report"
+        return None
+
+
+def _wanted_of(pops: Program, parts: Optional[PartProgram]) -> list[bytes]:
+    """Returns what the programs here report of the probe. MachinesError where one fails."""
+    try:
+        wanted = [pops.report(PROBE)]
+        if parts is not None:
+            task = tasks_of([Source(None, PROBE)])[0]
+            wanted.append(parts.report(Part(task, "play", 1, parts.depth)))
+        return wanted
+    except RunError as error:
+        raise MachinesError(str(error)) from None
 
 
 class Machines:
-    """Machines whose pops gives the reports of pops here."""
+    """Machines whose programs report what the ones here do."""
 
     def __init__(
         self,
         logins: Sequence[str],
         parallel: Parallel,
-        names: Sequence[str],
         options: Sequence[str],
-        program: Program,
+        names: Sequence[str],
+        programs: tuple[Program, Optional[PartProgram]],
         say: Callable[[str], None],
     ):
-        """Asks each machine for the report of one problem, and leaves out those that fail. `names` are
-        the programs there: pops, and pops-part where it is needed.
+        """Probes each machine, and leaves out those that fail. `names` are the ones of the programs there:
+        of pops, and of pops-part where it is needed.
 
-        MachinesError where no machine is left.
+        MachinesError where no machine is left, or a program here fails.
         """
         self._say = say
-        self._program = program
         self._parallel = parallel
         self._lock = threading.Lock()
-        # The checksums of these programs, by the machines.
-        self._checksums: dict[str, list[str]] = {}
-
+        # The checksums of the machines' programs, by their names: empty where one isn't known.
+        self._checksums: dict[tuple[str, str], str] = {}
+        self._program, parts = programs
         script = _SCRIPT.format(options=" ".join(options), without=_WITHOUT_LIMIT)
         self._script = [script, names[0]]
-        self._number = len(names)
-        others = " ".join(map(shlex.quote, names[1:]))
-        self._probing = [script + _CHECKSUMS.format(others=others), names[0]]
+        quoted = list(map(shlex.quote, names))
+        if parts is not None:
+            text = {"text": coded(PROBE), "most": MOST_OF_A_PROBE}
+            script += _PART.format(name=quoted[1], depth=parts.depth, **text)
+        self._probing = [script + _CHECKSUMS.format(names=" ".join(quoted)), names[0]]
+        wanted = _wanted_of(*programs)
         named = [name for login in logins for name in login.split(",") if name]
-        self.alive = [login for login in dict.fromkeys(named) if self._is_sound(login)]
+        self.alive = [login for login in dict.fromkeys(named) if self._is_sound(login, wanted)]
         self.expect_some()
-        self.compare(0, program.path)
+        for name, program in zip(_PROGRAMS, programs):
+            if program is not None:
+                self._compare(name, program.path)
 
-    def _is_sound(self, login: str) -> bool:
-        wanted = self._program.report(PROBE)
+    def _is_sound(self, login: str, wanted: Sequence[bytes]) -> bool:
         for _ in range(FAILURES):
             probe = self._probed(login)
-            reason = self._parallel.last_error
-            if probe.report == wanted:
-                self._checksums[machine_of(login)] = probe.checksums
+            fault = probe.fault(wanted)
+            if fault is None:
+                for name, checksum in zip(_PROGRAMS, probe.checksums):
+                    self._checksums[machine_of(login), name] = checksum
                 return True
-            if probe.report is not None:
-                reason = "its pops gives another report"
-                break
+            reason = fault or self._parallel.last_error
             if probe.is_late:
-                reason = NO_REPORT_IN_TIME.format(SECONDS_OF_A_PROBE)
                 break
         self._say(f"machine {login} left out: {reason}")
         return False
@@ -324,21 +353,20 @@ class Machines:
         """Returns what a machine gives of the probe."""
         probe = _Probe()
         seconds = self._program.seconds and max(self._program.seconds, SECONDS_OF_A_PROBE)
-        words = [_word(0, PROBE, seconds)]
-        jobs = Jobs(self._probing, words)
+        jobs = Jobs(self._probing, [_word(0, PROBE, seconds)])
         self._parallel.run([login], jobs, probe.take, probe.look, shared=True)
         return probe
 
-    def _checksum(self, login: str, place: int) -> str:
+    def _checksum(self, login: str, name: str) -> str:
         """Returns the checksum of a machine's program; nothing where it isn't known."""
-        return "".join(self._checksums[machine_of(login)][place : place + 1])
+        return self._checksums.get((machine_of(login), name), "")
 
-    def compare(self, place: int, program: str) -> None:
-        """Says which machines have another program in a place than the one here, or one that isn't known,
-        as without sha256sum.
+    def _compare(self, name: str, program: str) -> None:
+        """Says which machines have another program by this name than the one here, or one that isn't
+        known, as without sha256sum.
         """
-        name, here = _PROGRAMS[place], places.fingerprint(program)
-        sums = {login: self._checksum(login, place) for login in self.alive}
+        here = places.fingerprint(program)
+        sums = {login: self._checksum(login, name) for login in self.alive}
         unknown = [login for login in sums if not sums[login]]
         others = [login for login in sums if sums[login] not in ("", here)]
         if unknown:
@@ -351,9 +379,8 @@ class Machines:
         began. A program that isn't known is taken for the same.
         """
         for login in self.alive:
-            now = self._probed(login).checksums
-            for place, (name, checksum) in enumerate(zip(_PROGRAMS, now)):
-                if checksum and self._checksum(login, place) not in ("", checksum):
+            for name, checksum in zip(_PROGRAMS, self._probed(login).checksums):
+                if checksum and self._checksum(login, name) not in ("", checksum):
                     return f"{name} on {machine_of(login)}"
         return None
 
@@ -364,8 +391,8 @@ class Machines:
         MachinesError where no machine is left.
         """
         for login in list(self.alive):
-            for place, name in enumerate(_PROGRAMS[: self._number]):
-                checksum = self._checksum(login, place)
+            for name in _PROGRAMS:
+                checksum = self._checksum(login, name)
                 if checksum and not is_from(f"{name} on {machine_of(login)}", checksum):
                     self.alive.remove(login)
                     self._say(f"machine {login} left out: {name} isn't the one that the run had there")
@@ -414,10 +441,6 @@ class Machines:
 
         jobs = Jobs(self._script, now.lines, now.seconds)
         self._parallel.run(self.alive, jobs, now.take, look, shared=True)
-
-    def close(self) -> None:
-        """Ends all connections."""
-        self._parallel.close()
 
     def leave_out(self, machine: str, reason: str = "") -> None:
         """Hands out nothing more to a machine that failed, by default for the last error."""

@@ -197,17 +197,9 @@ class Parallel:
 
     def _command(self, room: Path, jobs: Jobs) -> list[str]:
         limit = [] if jobs.seconds is None else ["--timeout", str(jobs.seconds)]
-        return [
-            *self._words,
-            *limit,
-            "--sshloginfile",
-            str(room / "machines"),
-            "--joblog",
-            str(room / "log"),
-            "-a",
-            str(room / "tasks"),
-            " ".join(map(shlex.quote, ["sh", "-c", *jobs.script])) + " {}",
-        ]
+        words = [*self._words, *limit, "--sshloginfile", str(room / "machines")]
+        words += ["--joblog", str(room / "log"), "-a", str(room / "tasks")]
+        return [*words, " ".join(map(shlex.quote, ["sh", "-c", *jobs.script])) + " {}"]
 
     def stop(self, jobs: Sequence[int]) -> None:
         """Stops jobs of the run at hand; those that aren't begun never are."""

@@ -1,6 +1,5 @@
 """Runs of the program pops-part on this machine."""
 
-import subprocess
 import tempfile
 from collections.abc import Callable, Generator, Iterator, Sequence
 from contextlib import closing
@@ -9,7 +8,7 @@ from typing import Optional
 from pops_companions.many.batches import Batch, numbers_of
 from pops_companions.many.child_process import (
     MOST_OUTPUT,
-    MOST_SAID,
+    PAUSE,
     ChildProcess,
     OutputError,
 )
@@ -22,7 +21,7 @@ from pops_companions.many.parts import (
     phases_listed,
     up_to_totals,
 )
-from pops_companions.many.program import PAUSE, SOUND, RunError, Runs
+from pops_companions.many.program import SOUND, RunError, Runs
 from pops_companions.many.tasks import whole_lines
 
 # In milliseconds, in place of PAUSE.
@@ -122,20 +121,18 @@ class PartProgram(Runs):
         RunError where it doesn't end well.
         """
         with tempfile.TemporaryFile() as errors:
-            child = self._started(words, subprocess.PIPE, errors)
+            child = self.begin(words, errors)
             with self._lock:
                 self._at_work[first.key] = child
                 if first.key in self._dropped:
                     child.kill()
             try:
-                yield from self._written(child, first.text, pause)
+                yield from self.output(child, first.text, pause)
             finally:
                 with self._lock:
                     del self._at_work[first.key]
-            status = child.run.returncode
-            if status != SOUND:
-                errors.seek(0)
-                raise RunError(self._reason(status, errors.read(MOST_SAID)))
+            if child.run.returncode != SOUND:
+                raise RunError(self.why(child, errors))
 
     def drop(self, part: Part) -> None:
         """Stops the run that begins with a part that can't matter any more."""

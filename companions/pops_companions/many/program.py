@@ -1,34 +1,33 @@
 """Programs on this machine: where they are, and runs of them."""
 
 import os
-import select
 import signal
 import subprocess
 import threading
 from collections.abc import Callable, Generator, Sequence
+from contextlib import closing
 from typing import IO, Optional
 
 from pops_companions import places
 from pops_companions.many.bundle_run import BundleRun, Came
-from pops_companions.many.bundles import Bundles, text_of
+from pops_companions.many.bundles import Bundles
 from pops_companions.many.child_process import (
     MOST_OUTPUT,
     MOST_ROOM,
     MOST_SPOOLED,
+    PAUSE,
     ChildProcess,
     Outcome,
     Stream,
     has_room,
     outcome_of,
     refuse_unlisted,
-    rest_of,
     wrote_more,
 )
 from pops_companions.many.tasks import (
     HEAD,
     UNFINISHED,
     Result,
-    Source,
     Task,
     is_whole,
     whole_lines,
@@ -38,12 +37,13 @@ from pops_companions.report import lines
 
 # A run of pops ends with one of these where every byte of its report was written.
 SOUND, FAULTY = 0, 1
+# The bytes that a program may say into a file, where what it writes is read piece by piece.
+MOST_ERRORS = 1 << 26
+# How many of these are shown.
+MOST_SHOWN = 1 << 12
 # A run of pops on a file that it can't open ends with this.
 UNREADABLE = 3
 
-# What a run writes is read after pauses of this many milliseconds, unless it ends sooner or writes
-# much: it writes line by line, and waking for each line would cost more than the search.
-PAUSE = 20
 _PIECE = 1 << 16
 # The most runs at a time that have room for what they write in a pause: pipes take little in all.
 _MOST_WITH_ROOM = 16
@@ -67,13 +67,21 @@ class OutputRunError(RunError):
     """A run whose output can't be kept: another one would end in the same way."""
 
 
+def named_program(named: Optional[str], variable: str) -> Optional[str]:
+    """Returns the program that is named, or that a variable names; None where neither names one.
+
+    MissingError where it is nowhere.
+    """
+    named = named or os.environ.get(variable)
+    found = places.found(named) if named else None
+    if named and found is None:
+        raise MissingError(f"there is no program {named}")
+    return found
+
+
 def find(named: Optional[str]) -> str:
     """Finds the program as LOOKED_FOR says; builds none. MissingError where it is nowhere."""
-    named = named or os.environ.get("POPS")
-    if named:
-        found = places.found(named)
-        if found is None:
-            raise MissingError(f"there is no program {named}")
+    if found := named_program(named, "POPS"):
         return without_script(found)
     found = _of_sources(REPOSITORY, "pops") or _beside() or places.found("pops")
     if found is not None:
@@ -94,12 +102,8 @@ def find_part_program(named: Optional[str], pops: str) -> str:
     """Returns the program of parts: as named, $POPS_PART, from the repository of pops or beside it,
     from this repository, or on the PATH.
     """
-    named = named or os.environ.get("POPS_PART")
-    if named:
-        found = places.found(named)
-        if found is None:
-            raise MissingError(f"there is no program {named}")
-        return without_script(found, "pops-part")
+    if named_found := named_program(named, "POPS_PART"):
+        return without_script(named_found, "pops-part")
     folder = folder_above(os.path.realpath(pops))
     # (built in crates/pops/out, or released in release)
     above = [folder_above(folder, 3), folder_above(folder)]
@@ -212,49 +216,31 @@ class Runs:
         child = self._started(words, subprocess.PIPE, subprocess.PIPE)
         return self._ended(child, text, seconds, spooled_if)
 
-    def _written(
-        self, child: ChildProcess, text: bytes, pause: Callable[[], int]
-    ) -> Generator[bytes, None, None]:
-        """Yields what a run on a text writes, as `_output` does."""
-        child.feed(text)
-        yield from self._output(child, pause)
+    def begin(self, words: Sequence[str], errors: IO[bytes]) -> ChildProcess:
+        """Starts a run that is read piece by piece; what it says goes to a file, up to MOST_ERRORS."""
+        child = self._started(words, subprocess.PIPE, errors)
+        child.limit_files(MOST_ERRORS)
+        return child
 
-    def _output(
-        self, child: ChildProcess, pause: Callable[[], int]
+    def output(
+        self,
+        child: ChildProcess,
+        text: Optional[bytes] = None,
+        pause: Callable[[], int] = lambda: PAUSE,
     ) -> Generator[bytes, None, None]:
-        """Yields what a run writes, piece by piece, after pauses in milliseconds. It is stopped where
-        it isn't read on."""
-        run, is_read = child.run, False
-        assert run.stdout is not None
-        output = run.stdout.fileno()
-        ready, end = select.poll(), select.poll()
-        ready.register(output, select.POLLIN)
-        ready.register(child.woken, select.POLLIN)
-        # (without an event of its own it reports only the end)
-        end.register(output, 0)
+        """Yields what a run writes, as `ChildProcess.pieces` does."""
         try:
-            while not child.is_killed:
-                ready.poll()
-                if child.is_killed:
-                    break
-                piece = os.read(output, _PIECE)
-                if not piece:
-                    break
-                yield piece
-                if len(piece) < _PIECE // 2:
-                    end.poll(pause())
-            if child.is_killed:
-                child.end()
-                yield rest_of(output)
-            is_read = True
+            with closing(child.pieces(text, pause=pause)) as pieces:
+                for _, piece in pieces:
+                    yield piece
         finally:
-            if not is_read:
-                child.kill()
-            run.stdout.close()
-            child.wait()
             with self._lock:
                 self._running.discard(child)
-            child.release()
+
+    def why(self, child: ChildProcess, errors: IO[bytes]) -> str:
+        """Returns why a run that was begun failed, with the first of what it said."""
+        errors.seek(0)
+        return self._reason(child.run.returncode, errors.read(MOST_SHOWN), MOST_ERRORS)
 
     def _reason(self, status: int, error: bytes, most: int = MOST_SPOOLED) -> str:
         """Returns why a run failed that could write `most` bytes into a file."""
@@ -301,7 +287,6 @@ class Program(Runs):
                 has_room(child.run.stdout, MOST_ROOM)
             if self.seconds is not None:
                 child.limit(self.seconds * len(bundle))
-            child.feed(text_of(bundle))
             return BundleRun(child, bundle, self.seconds, bundles).go()
         finally:
             with self._lock:
@@ -311,7 +296,7 @@ class Program(Runs):
         """Returns the result of a first run; for the line of a fault it runs the problem again, here.
         """
         if task.wants_line_ends(report):
-            status, report = self._one(task.text_with_line_ends)
+            status, report = self._of(self.outcome([], task.text_with_line_ends, self.seconds))
         if status == UNFINISHED:
             return Result(task, status, task.numbered(whole_lines(report)), self.seconds)
         return Result(task, status, task.numbered(report))
@@ -320,12 +305,8 @@ class Program(Runs):
         """Returns the report of one problem, however long it takes."""
         return self._of(self.outcome([], text))[1]
 
-    def _one(self, text: bytes) -> tuple[int, bytes]:
-        """Status and report of a run on one problem; UNFINISHED where its time was over."""
-        return self._of(self.outcome([], text, self.seconds))
-
     def _of(self, run: Outcome) -> tuple[int, bytes]:
-        """Status and report of a run that ended."""
+        """Status and report of a run on one problem; UNFINISHED where its time was over."""
         if run.status in (SOUND, FAULTY) and is_whole(run.output):
             return run.status, run.output
         if not run.in_time:
@@ -352,33 +333,24 @@ class Program(Runs):
         # (loaded only by runs that need it)
         import tempfile
 
-        text = task.source.text
-        errors = subprocess.DEVNULL if text is None else None
         # (it stays open as long as the result)
         report = tempfile.TemporaryFile()
+        name, text = task.source
+        errors = subprocess.DEVNULL if text is None else None
+        source = subprocess.PIPE
+        if name is not None:
+            # (pops takes no name that isn't UTF-8)
+            try:
+                source = os.open(name, os.O_RDONLY | os.O_CLOEXEC)
+            except OSError:
+                return Result(task, UNREADABLE, b"")
         try:
-            child = self._started_on(task.source, errors, report)
-        except FileNotFoundError:
-            report.close()
-            return Result(task, UNREADABLE, b"")
+            child = self._started([], source, errors, report)
+        finally:
+            if name is not None:
+                os.close(source)
         child.limit_files(MOST_SPOOLED)
         run = self._ended(child, text, None)
         if run.status < 0:
             raise RunError(self._reason(run.status, b""))
         return Result(task, run.status, b"", spooled=report)
-
-    def _started_on(self, source: Source, errors: Stream, output: Stream) -> ChildProcess:
-        """Starts a run that reads a source itself: pops takes no name that isn't UTF-8.
-
-        FileNotFoundError where the source can't be opened.
-        """
-        if source.name is None:
-            return self._started([], subprocess.PIPE, errors, output)
-        try:
-            opened = os.open(source.name, os.O_RDONLY | os.O_CLOEXEC)
-        except OSError:
-            raise FileNotFoundError from None
-        try:
-            return self._started([], opened, errors, output)
-        finally:
-            os.close(opened)

@@ -7,29 +7,21 @@ writes comes back line by line, as soon as it is written, and last how it ended.
 import base64
 import binascii
 import re
-import time
 from collections.abc import Callable, Iterable, Iterator, Sequence
 from typing import NamedTuple, Optional
 
 from pops_companions.many.child_process import MOST_OUTPUT, wrote_more
 from pops_companions.many.machines import (
-    FAILURES,
-    MOST_OF_A_PROBE,
-    NO_REPORT_IN_TIME,
-    PROBE,
     ROUNDS_WITHOUT_REPORT,
-    SECONDS_OF_A_PROBE,
     Machines,
-    MachinesError,
     Watch,
     coded,
     logins_of,
 )
 from pops_companions.many.parallel import UNLESS_OVER, Ended, Jobs, Parallel, machine_of
 from pops_companions.many.part_program import PartProgram
-from pops_companions.many.parts import Key, Part, PartsError, count_in
-from pops_companions.many.program import SOUND, RunError
-from pops_companions.many.tasks import Source, tasks_of
+from pops_companions.many.parts import Key, Part, count_in
+from pops_companions.many.program import SOUND
 
 # The program is $0; the one word after it holds number, phase, part and text of each in turn.
 _SCRIPT = (
@@ -65,46 +57,39 @@ def _decoded(line: bytes) -> Optional[tuple[int, bytes]]:
 
 class Handling(NamedTuple):
     """What is done with parts. `keep` takes a part that is done and returns whether others no longer
-    matter, `fail` reports parts that failed on a machine, with the reason. A part has at most `most`
-    bytes. After `seconds`, if there is a limit, all are ended."""
+    matter, `fail` reports parts that failed on a machine, with the reason."""
 
     keep: Callable[[Part, bytes], bool]
     fail: Callable[[Sequence[Part], str, str], None]
     is_needless: Callable[[Part], bool]
-    most: int
-    seconds: Optional[float] = None
 
 
 class _Written:
     """What came back of parts so far, by their numbers."""
 
-    def __init__(self, most: int):
-        """`most` bytes are kept of a part."""
-        self._most = most
-        self._lines: dict[int, list[bytes]] = {}
-        self._sizes: dict[int, int] = {}
+    def __init__(self) -> None:
+        self._texts: dict[int, bytearray] = {}
         self._held = 0
 
     def add(self, number: int, text: bytes) -> Optional[int]:
         """Adds a line of a part. Returns a part that wrote too much, which it drops."""
-        self._lines.setdefault(number, []).append(text)
-        self._sizes[number] = self._sizes.get(number, 0) + len(text)
+        known = self._texts.setdefault(number, bytearray())
+        known += text
         self._held += len(text)
-        if self._sizes[number] <= self._most and self._held <= _MOST_HELD:
+        if len(known) <= MOST_OUTPUT and self._held <= _MOST_HELD:
             return None
-        longest = max(self._sizes, key=self._sizes.__getitem__)
+        longest = max(self._texts, key=lambda it: len(self._texts[it]))
         self.drop(longest)
         return longest
 
     def drop(self, number: int) -> None:
-        self._lines.pop(number, None)
-        self._held -= self._sizes.pop(number, 0)
+        self._held -= len(self._texts.pop(number, b""))
 
     def of(self, number: int) -> bytes:
-        return b"".join(self._lines.get(number, []))
+        return bytes(self._texts.get(number, b""))
 
     def __iter__(self) -> Iterator[int]:
-        return iter(self._lines)
+        return iter(self._texts)
 
 
 class _Round:
@@ -123,10 +108,9 @@ class _Round:
         self._watch = watch
         self._handling = handling
         self._open = set(range(len(parts)))
-        self._written = _Written(handling.most)
-        # The parts that wrote too much, and the bytes of lines that aren't of an open part.
+        self._written = _Written()
+        # The parts that wrote too much.
         self._flooded: set[int] = set()
-        self.useless = 0
         logins = logins_of([_word(number, part) for number, part in enumerate(parts)], places)
         self.lines = [" ".join(words) for words in logins]
         # The numbers of the parts of each job, and the job of each part.
@@ -142,7 +126,6 @@ class _Round:
         """Takes a line that came back."""
         decoded = _decoded(line)
         if decoded is None or decoded[0] not in self._open or decoded[0] in self._flooded:
-            self.useless += len(line)
             return
         number, text = decoded
         ended = _ENDED.fullmatch(text)
@@ -193,7 +176,7 @@ class _Round:
             machine = broken.machine
             left = [number for number in self._jobs[broken.job] if number in self._open]
             flooded = [number for number in left if number in self._flooded]
-            reason = wrote_more(self._handling.most) if flooded else self._parallel.last_error
+            reason = wrote_more(MOST_OUTPUT) if flooded else self._parallel.last_error
             for number in flooded or left[:1]:
                 failed.setdefault((machine, reason), []).append(self._parts[number])
         for (machine, reason), parts in failed.items():
@@ -215,58 +198,11 @@ class RemoteParts:
         program: PartProgram,
         say: Callable[[str], None],
     ):
-        """Asks each machine for a part of one problem, and leaves out those that fail.
-
-        MachinesError where none is left, or the program here doesn't solve this part.
-        """
         self._machines = machines
         self._parallel = parallel
         self._program = program
         self._say = say
         self._script = [_SCRIPT.format(depth=program.depth), pops_part]
-        self._probe()
-
-    def _probe(self) -> None:
-        part = Part(tasks_of([Source(None, PROBE)])[0], "play", 1, self._program.depth)
-        try:
-            self._program.phases(PROBE)
-            wanted = self._program.report(part)
-        except (PartsError, RunError) as error:
-            raise MachinesError(str(error)) from None
-        self._machines.alive = [
-            login for login in self._machines.alive if self._is_sound(login, part, wanted)
-        ]
-        self._machines.expect_some()
-        self._machines.compare(1, self._program.path)
-
-    def _is_sound(self, login: str, part: Part, wanted: bytes) -> bool:
-        for _ in range(FAILURES):
-            report, reason = self._probed(login, part)
-            if report == wanted:
-                return True
-            if report is not None:
-                reason = "its pops-part gives another report"
-            if report is not None or reason == NO_REPORT_IN_TIME.format(SECONDS_OF_A_PROBE):
-                break
-        self._say(f"machine {login} left out: {reason}")
-        return False
-
-    def _probed(self, login: str, part: Part) -> tuple[Optional[bytes], str]:
-        """Returns a machine's report of a part; None where none came back, with the reason."""
-        answers: list[bytes] = []
-        reasons: list[str] = []
-
-        def keep(part: Part, report: bytes) -> bool:
-            answers.append(report)
-            return False
-
-        def fail(parts: Sequence[Part], machine: str, reason: str) -> None:
-            reasons.append(reason)
-
-        handling = Handling(keep, fail, lambda part: False, MOST_OF_A_PROBE, SECONDS_OF_A_PROBE)
-        self._hand_out([part], [login], handling)
-        report = answers[0] if answers else None
-        return report, reasons[0] if reasons else "no report came back"
 
     def run(
         self,
@@ -298,7 +234,7 @@ class RemoteParts:
                 message = f"{parts[0].shown}{others} failed on machine {machine}"
                 self._say(f"{message}: tried elsewhere: {reason}")
 
-            self._hand_out(group, machines, Handling(keep, fail, is_needless, MOST_OUTPUT))
+            self._hand_out(group, machines, Handling(keep, fail, is_needless))
             if any(map(is_needless, group)):
                 idle_rounds = 0
 
@@ -306,15 +242,11 @@ class RemoteParts:
         """Hands out parts once, to these machines."""
         places = len(logins) * (self._parallel.jobs or _PLACES_OF_A_MACHINE)
         now = _Round(parts, places, self._parallel, Watch(self._machines), handling)
-        until = None if handling.seconds is None else time.monotonic() + handling.seconds
 
         def look(jobs: Sequence[Ended]) -> bool:
             now.note(jobs)
-            if until is not None and time.monotonic() > until:
-                handling.fail(parts, logins[0], NO_REPORT_IN_TIME.format(handling.seconds))
-                return False
             logins[:] = [login for login in logins if login in self._machines.alive]
-            return bool(logins) and (len(parts) > 1 or now.useless <= handling.most)
+            return bool(logins)
 
         try:
             self._parallel.run(logins, Jobs(self._script, now.lines), now.take, look)

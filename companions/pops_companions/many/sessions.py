@@ -13,8 +13,8 @@ import subprocess
 import sys
 import threading
 import time
-from collections.abc import Collection, Iterator
-from contextlib import contextmanager, suppress
+from collections.abc import Callable, Collection, Iterator
+from contextlib import closing, contextmanager, suppress
 
 _SECONDS_BETWEEN = 0.05
 _ROUNDS = 100
@@ -35,59 +35,58 @@ def are_listed() -> bool:
 
 def members(session: int) -> list[int]:
     """Returns the processes of a session that haven't ended."""
+
+    def is_member(process: int) -> bool:
+        fields = _fields(process)
+        return int(fields[3]) == session and fields[0] not in (b"Z", b"X")
+
+    return _those(is_member)
+
+
+def _those(is_one: Callable[[int], bool]) -> list[int]:
+    """Returns the processes of which this holds, but those that ended meanwhile or are another user's; none
+    where the system doesn't list them.
+    """
     found = []
-    for process in _processes():
-        try:
-            fields = _fields(process)
-        except OSError:
-            continue
-        if int(fields[3]) == session and fields[0] not in (b"Z", b"X"):
-            found.append(process)
+    with suppress(FileNotFoundError):
+        for name in filter(str.isdigit, os.listdir("/proc")):
+            with suppress(OSError):
+                if is_one(int(name)):
+                    found.append(int(name))
     return found
+
+
+def _read(process: int, name: str) -> bytes:
+    """Returns a file of what the system knows of a process."""
+    with open(f"/proc/{process}/{name}", "rb") as file:
+        return file.read()
 
 
 def _fields(process: int) -> list[bytes]:
     """Returns what the system knows of a process: its state, its parent and more."""
-    with open(f"/proc/{process}/stat", "rb") as file:
-        # The name is in brackets and may hold anything; the fields follow it.
-        return file.read().rpartition(b")")[2].split()
+    # The name is in brackets and may hold anything; the fields follow it.
+    return _read(process, "stat").rpartition(b")")[2].split()
 
 
 def _parent(process: int) -> int:
     return int(_fields(process)[1])
 
 
-def _processes() -> list[int]:
-    """Returns all processes, or none where the system doesn't list them."""
-    with suppress(FileNotFoundError):
-        return [int(name) for name in os.listdir("/proc") if name.isdigit()]
-    return []
-
-
 def has_children(process: int) -> bool:
     """Returns whether a process has started others that run, or whether that isn't known."""
-    folder = f"/proc/{process}/task"
     try:
-        for thread in os.listdir(folder):
-            with open(f"{folder}/{thread}/children", "rb") as file:
-                if file.read(1):
-                    return True
+        threads = os.listdir(f"/proc/{process}/task")
+        return any(_read(process, f"task/{thread}/children") for thread in threads)
     except OSError:
         return True
-    return False
 
 
 def end_connections(folder: str) -> None:
     """Kills the ssh processes that hold shared connections in a folder: they name it in their titles."""
     title = b"ssh: " + os.fsencode(folder) + b"/"
-    for process in _processes():
-        try:
-            with open(f"/proc/{process}/cmdline", "rb") as file:
-                is_one = file.read().startswith(title)
-            if is_one:
-                os.kill(process, signal.SIGKILL)
-        except OSError:
-            pass
+    for process in _those(lambda process: _read(process, "cmdline").startswith(title)):
+        with suppress(OSError):
+            os.kill(process, signal.SIGKILL)
 
 
 def name_of_pipe(handle: int) -> str:
@@ -99,29 +98,27 @@ def _holding(pipe: str) -> list[int]:
     """Returns the processes that hold a pipe, but for this one and the ones that it started itself: these
     hold it for the moment in which they become other programs.
     """
-    found, own = [], os.getpid()
-    for process in _processes():
+    own = os.getpid()
+
+    def holds(process: int) -> bool:
         folder = f"/proc/{process}/fd"
-        try:
-            if process != own and _parent(process) != own:
-                if any(os.readlink(f"{folder}/{name}") == pipe for name in os.listdir(folder)):
-                    found.append(process)
-        except OSError:
-            continue
-    return found
+        is_other = process != own and _parent(process) != own
+        return is_other and pipe in (_linked(f"{folder}/{it}") for it in os.listdir(folder))
+
+    return _those(holds)
+
+
+def _linked(path: str) -> str:
+    """Returns what a link names; nothing where it is gone, as of a file that was closed meanwhile."""
+    with suppress(OSError):
+        return os.readlink(path)
+    return ""
 
 
 def _marked(mark: str) -> list[int]:
     """Returns the processes with a mark in their environment."""
-    found, entry = [], mark.encode("ascii") + b"="
-    for process in _processes():
-        try:
-            with open(f"/proc/{process}/environ", "rb") as file:
-                if any(it.startswith(entry) for it in file.read().split(b"\0")):
-                    found.append(process)
-        except OSError:
-            continue
-    return found
+    entry = b"\0" + mark.encode("ascii") + b"="
+    return _those(lambda process: entry in b"\0" + _read(process, "environ"))
 
 
 def of_run(session: int, mark: str, pipe: str) -> list[int]:
@@ -196,16 +193,13 @@ def watched(session: int, folder: str) -> Iterator[None]:
     """Ends the session, unless it is 0, and the connections in the folder, and removes the folder, if
     this process is killed meanwhile.
     """
-    watcher = Watcher(session, folder)
-    try:
+    with closing(Watcher(session, folder)):
         yield
-    finally:
-        watcher.end()
 
 
 class Watcher:
     """A process that ends a session, as `watched` does, what has a mark and what holds a pipe, if this
-    process is killed before `end`. If it is killed alone, another takes its place.
+    process is killed before `close`. If it is killed alone, another takes its place.
     """
 
     def __init__(self, session: int, folder: str = "", mark: str = "", pipe: str = ""):
@@ -231,7 +225,7 @@ class Watcher:
         )
 
     def _replace(self) -> None:
-        """Starts the process again whenever it ends before `end`."""
+        """Starts the process again whenever it ends before `close`."""
         for _ in range(_ROUNDS):
             self._run.wait()
             with self._lock, suppress(OSError):
@@ -240,7 +234,7 @@ class Watcher:
                 self._run.communicate()
                 self._run = self._started()
 
-    def end(self) -> None:
+    def close(self) -> None:
         """Ends the watch. (Killed before its input ends, the process does nothing.)"""
         with self._lock:
             self._is_over = True

@@ -6,7 +6,7 @@ MaxSolutions, which holds in each part by itself, cuts them again.
 
 import bisect
 import math
-from collections.abc import Callable, Iterator, Sequence
+from collections.abc import Callable, Iterable, Iterator, Sequence
 from typing import NamedTuple, Optional
 
 from pops_companions.many.parts import (
@@ -33,6 +33,12 @@ class Tally(NamedTuple):
 
     done: int
     of_all: int
+
+
+def _total(tallies: Iterable[Tally]) -> Tally:
+    """Returns how many are done of all."""
+    done, of_all = zip(*tallies)
+    return Tally(sum(done), sum(of_all))
 
 
 class Cutting(NamedTuple):
@@ -150,14 +156,12 @@ class SplitProblem:
 
     @property
     def tally(self) -> Tally:
-        tallies = [phase.tally for phase in self._of.values()]
-        return Tally(sum(it.done for it in tallies), sum(it.of_all for it in tallies))
+        return _total(phase.tally for phase in self._of.values())
 
     @property
     def first_moves(self) -> Tally:
         """The first moves of all phases that are done, of how many."""
-        tallies = [phase.first_moves for phase in self._of.values()]
-        return Tally(sum(it.done for it in tallies), sum(it.of_all for it in tallies))
+        return _total(phase.first_moves for phase in self._of.values())
 
     @property
     def is_done(self) -> bool:

@@ -1,31 +1,21 @@
 """Solves problems in parts, on this machine and on others, and puts their reports together."""
 
+import threading
 from collections.abc import Callable, Iterator, Sequence
-from concurrent.futures import Future, ThreadPoolExecutor
-from queue import SimpleQueue
-from typing import NamedTuple, Optional, Union
+from functools import partial
+from typing import Optional
 
 from pops_companions.many.batches import Batch, Batches
 from pops_companions.many.journal import Journal
+from pops_companions.many.local import TRIES, in_threads
 from pops_companions.many.machines import Machines, MachinesError
 from pops_companions.many.part_program import PartProgram
-from pops_companions.many.parts import Part, PartsError, head_of, limit_of
+from pops_companions.many.parts import Key, Part, PartsError, head_of, limit_of
 from pops_companions.many.program import SOUND, Program, RunError
 from pops_companions.many.progress import HowFar, Progress
 from pops_companions.many.remote_parts import RemoteParts
 from pops_companions.many.split_problem import Cutting, SplitProblem
 from pops_companions.many.tasks import Result, Task
-
-# How often a part that fails is tried on this machine in all.
-_TRIES = 2
-
-
-class Came(NamedTuple):
-    """What came of a part: its report, or why it failed."""
-
-    part: Part
-    report: Optional[bytes]
-    error: str
 
 
 class Splitting:
@@ -46,8 +36,10 @@ class Splitting:
         self._finish = finish
         self._problems: dict[int, SplitProblem] = {}
         self._failed: dict[int, tuple[Task, str]] = {}
-        # The parts that are handed out on this machine.
+        # The parts that are handed out on this machine: several threads go through them.
         self._batches: Optional[Batches] = None
+        self._lock = threading.Lock()
+        self._is_stopped = False
 
     @property
     def failed(self) -> list[tuple[Task, str]]:
@@ -84,19 +76,18 @@ class Splitting:
         """Solves the parts: on other machines where there are any, else here, `jobs` at a time."""
         self._tell()
         with self._progress.beating():
-            self._run(there, jobs)
+            barred = self._run_there(there) if there is not None else set()
+            self._run_here([part for part in self._left() if part.key not in barred], jobs)
 
-    def _run(self, there: Optional[RemoteParts], jobs: int) -> None:
-        barred: list[Part] = []
-        if there is not None:
-            sent = [part for part in self._left() if Machines.takes(part.task)]
-            try:
-                there.run(sent, self._keep, self._is_needless)
-            except MachinesError as error:
-                barred = sent
-                self._fail(sent, str(error))
-        keys = {part.key for part in barred}
-        self._run_here([part for part in self._left() if part.key not in keys], jobs)
+    def _run_there(self, there: RemoteParts) -> set[Key]:
+        """Solves parts on other machines; returns the ones that failed because no machine is left."""
+        sent = [part for part in self._left() if Machines.takes(part.task)]
+        try:
+            there.run(sent, self._keep, self._is_needless)
+            return set()
+        except MachinesError as error:
+            self._fail(sent, str(error))
+            return {part.key for part in sent}
 
     def _fail(self, parts: Sequence[Part], reason: str) -> None:
         for part in parts:
@@ -165,61 +156,27 @@ class Splitting:
         self._finish(Result(task, SOUND, report))
 
     def _run_here(self, parts: Sequence[Part], jobs: int) -> None:
-        batches = Batches(parts, lambda part: self._problems[part.task.place].is_limited)
-        self._batches = batches
-        came: "SimpleQueue[Union[Came, Future[None]]]" = SimpleQueue()
-        try:
-            with ThreadPoolExecutor(jobs) as pool:
-                try:
-                    self._hand_out(batches, jobs, pool, came)
-                except BaseException:
-                    self._program.stop()
-                    raise
-        finally:
-            # What came while the run was stopped is kept too.
-            while not came.empty():
-                last = came.get()
-                if isinstance(last, Came) and last.report is not None:
-                    self._keep(last.part, last.report)
+        self._batches = Batches(parts, lambda part: self._problems[part.task.place].is_limited)
+        in_threads(partial(self._work, self._batches), min(jobs, len(parts)), self._stop)
 
-    def _hand_out(
-        self,
-        batches: Batches,
-        jobs: int,
-        pool: ThreadPoolExecutor,
-        came: "SimpleQueue[Union[Came, Future[None]]]",
-    ) -> None:
-        """Hands batches out to `jobs` runs at a time, and takes what comes of them."""
-        running: "dict[Future[None], Batch]" = {}
+    def _stop(self) -> None:
+        """Ends all runs on parts, and begins none."""
+        self._is_stopped = True
+        self._program.stop()
+
+    def _work(self, batches: Batches) -> None:
+        """Goes through batches as long as there are any."""
         while True:
-            while len(running) < jobs:
-                batch = batches.next(self._is_needless)
-                if batch is None:
-                    break
-                future = pool.submit(self._go_through, batch, came.put)
-                running[future] = batch
-                future.add_done_callback(came.put)
-            if not running:
+            with self._lock:
+                batch = None if self._is_stopped else batches.next(self._is_needless)
+            if batch is None:
                 return
-            last = came.get()
-            if not isinstance(last, Came):
-                batches.end(running.pop(last))
-                last.result()
-            elif self._take(last):
-                for batch in running.values():
-                    left = batch.left
-                    if left and all(map(self._is_needless, left)):
-                        self._program.drop(left[0])
+            self._go_through(batch, batches)
+            with self._lock:
+                batches.end(batch)
 
-    def _take(self, came: "Came") -> bool:
-        """Takes what came of a part. Returns whether others no longer matter."""
-        if came.report is not None:
-            return self._keep(came.part, came.report)
-        self._fail([came.part], came.error)
-        return False
-
-    def _go_through(self, batch: Batch, hand_on: Callable[["Came"], None]) -> None:
-        """Hands on what comes of the parts of a batch.
+    def _go_through(self, batch: Batch, batches: Batches) -> None:
+        """Takes what comes of the parts of a batch.
 
         A part that fails is tried again with the parts after it, and then skipped.
         """
@@ -227,18 +184,27 @@ class Splitting:
         while batch:
             try:
                 for part, report in self._program.reports(batch):
-                    hand_on(Came(part, report, ""))
+                    self._take(part, report, batches)
                     tried = 0
             except RunError as error:
                 tried += 1
                 is_over = self._program.is_over(batch.first)
-                if tried < _TRIES and not is_over:
+                if tried < TRIES and not is_over:
                     self._progress.say(f"{batch.first.shown}: {error}; tried again")
                     continue
-                hand_on(Came(batch.pass_first(), None, str(error)))
+                with self._lock:
+                    self._fail([batch.pass_first()], str(error))
                 tried = 0
                 if is_over:
                     return
+
+    def _take(self, part: Part, report: bytes, batches: Batches) -> None:
+        """Keeps what came of a part, and stops the runs whose parts no longer matter by it."""
+        with self._lock:
+            if self._keep(part, report):
+                for left in batches.at_work:
+                    if left and all(map(self._is_needless, left)):
+                        self._program.drop(left[0])
 
     def lines_found(self, place: int) -> Optional[tuple[bytes, str]]:
         """Returns what is known of an unfinished problem in parts, and how far it is, or None."""

@@ -59,35 +59,35 @@ class Task(NamedTuple):
     @property
     def where(self) -> str:
         """Where a problem begins. For a problem alone."""
-        piece = self.piece
-        assert piece is not None
-        return f"{self.source.shown}, line {piece.line}"
+        return f"{self.source.shown}, line {self._alone[0].line}"
+
+    @property
+    def _alone(self) -> "tuple[Piece, bytes]":
+        """The problem, and the text of its source. For a problem alone."""
+        assert self.pieces is not None and self.source.text is not None
+        return self.pieces.at(self.at), self.source.text
 
     @property
     def text(self) -> bytes:
         """The input of the first run. For a problem alone."""
-        piece = self.piece
-        assert piece is not None and self.source.text is not None
-        return piece.alone(self.source.text, piece.line_ends <= LINE_ENDS_AT_ONCE)
+        piece, text = self._alone
+        return piece.alone(text, piece.line_ends <= LINE_ENDS_AT_ONCE)
 
     @property
     def text_with_line_ends(self) -> bytes:
         """The input that gives a fault its right line. For a problem alone."""
-        piece = self.piece
-        assert piece is not None and self.source.text is not None
-        return piece.alone(self.source.text, True)
+        piece, text = self._alone
+        return piece.alone(text, True)
 
     @property
     def text_without_line_ends(self) -> bytes:
         """The shortest input, for a problem that is known to be sound."""
-        piece = self.piece
-        assert piece is not None and self.source.text is not None
-        return piece.alone(self.source.text, False)
+        piece, text = self._alone
+        return piece.alone(text, False)
 
     def wants_line_ends(self, report: bytes) -> bool:
         """Returns whether the report of the first run is a fault with a wrong line."""
-        piece = self.piece
-        assert piece is not None
+        piece = self._alone[0]
         lacking = piece.number > 1 and piece.line_ends > LINE_ENDS_AT_ONCE
         line = report[len(HEAD) :].partition(b"\n")[0]
         return lacking and lines.FAULT.fullmatch(line) is not None

@@ -1,12 +1,11 @@
 """The program pops-tries, which shows tries and threats: where it is."""
 
-import os
-import shutil
 from collections.abc import Sequence
 from pathlib import Path
 from typing import Optional
 
-from pops_companions.many.program import FAULTY, SOUND, MissingError, RunError, Runs
+from pops_companions import places
+from pops_companions.many.program import FAULTY, SOUND, RunError, Runs, named_program
 from pops_companions.many.tasks import is_whole
 
 TRIES_LOOKED_FOR = (
@@ -19,19 +18,12 @@ def find_tries(named: Optional[str], pops: str) -> Optional[str]:
 
     MissingError where the one that is named is nowhere.
     """
-    named = named or os.environ.get("POPS_TRIES")
-    if named:
-        found = shutil.which(named)
-        if found is None:
-            raise MissingError(f"there is no program {named}")
+    if found := named_program(named, "POPS_TRIES"):
         return found
     beside = Path(pops).resolve().parent
     built = beside.parent.parent / "pops_tries" / "out" / "pops_tries"
-    for place in (str(beside / "pops-tries"), str(built), "pops-tries"):
-        found = shutil.which(place)
-        if found is not None:
-            return found
-    return None
+    beside_or_built = (str(beside / "pops-tries"), str(built), "pops-tries")
+    return next(filter(None, map(places.found, beside_or_built)), None)
 
 
 class TriesProgram(Runs):
