@@ -13,11 +13,11 @@ use crate::contest::Contest;
 use crate::desk::Desk;
 use crate::kept_tries::Candidates;
 use crate::move_set::{MoveSet, may_be, noted};
+use crate::progress::{First, Firsts, MOST_REFUTATIONS, Task};
 use crate::refuting::Refuting;
 use crate::replies::{
     are_two_refutations, count_refutations, is_key, is_key_unrefuted, is_refutation, is_try,
 };
-use crate::stage::{First, Firsts, MOST_REFUTATIONS, Task};
 use crate::threats::is_defence;
 use chess_core::Move;
 use chess_rules::{MovePlace, Rules, Undo, play, unplay};

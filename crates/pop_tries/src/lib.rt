@@ -23,7 +23,7 @@ mod replies;
 mod search;
 mod set_play;
 mod shown;
-mod stage;
+mod progress;
 mod threats;
 
 pub use laws::{
@@ -32,4 +32,4 @@ pub use laws::{
 };
 pub use pop_events::TryEvent;
 pub use search::TriesSearch;
-pub use stage::MOST_REFUTATIONS;
+pub use progress::MOST_REFUTATIONS;
