@@ -15,6 +15,6 @@
 //! the call does, by the spans of `pop_input`.
 #![tactic(auto)]
 
-pub mod listing;
+mod listing;
 
 pub use listing::list_faults;
