@@ -100,8 +100,8 @@ pub extern "C" fn pops_list(
     status_number(ending)
 }
 
-/// Writes the list of the input's faults to the front of `output`, one line per faulty item with the place where it is
-/// found, and its length in bytes to `written`.
+/// Writes the list of the input's faults to the front of `output`, one line per faulty item with the span of the fault,
+/// the bytes where it is found, and the list's length in bytes to `written`.
 ///
 /// The results are those that `pops_report` returns; the bytes are those that `pops-part --faults` writes.
 #[unsafe(no_mangle)]
