@@ -82,8 +82,8 @@ impl<I: ItemWriter> Session<I> {
     ///
     /// # Errors
     ///
-    /// `SinkFault` if the sink fails: a beginning of the item's report is then written. Every later call returns `SinkFault`
-    /// and calls neither source nor sink.
+    /// `SinkFault` if the sink fails: a beginning of the item's report is then written. Every later call returns
+    /// `SinkFault` and calls neither source nor sink.
     pub fn step<S: Source, W: Sink>(
         &mut self,
         source: &mut S,

@@ -21,8 +21,8 @@ ghost use Rattle.pop_tries.specs.ties.Searching.{after_first, below_and_after, c
 use crate::below::{open_walk, shown_node, walk_on};
 use crate::desk::Desk;
 use crate::first_moves::{Group, next_refutation, next_reply};
-use crate::shown::shown;
 use crate::progress::{First, Played, Step, Task, TriesProgress};
+use crate::shown::shown;
 use crate::threats::{find_threat, pass, unpass};
 use chess_core::{Board, Move, Square};
 use chess_rules::{MovePlace, Rules, Undo, has_legal_move, in_check, play, unplay};
@@ -42,7 +42,7 @@ fn end_first<R: Rules>(first: First, board: &mut Board) -> TriesProgress
     }
 }
 
-/// Ends what is shown below a first move, but for the refutations of a try. Returns the new progress.
+/// Ends what is shown after a first move, except for the refutations of a try. Returns the new progress.
 #[tactic(auto, unfolding(crate::specs::ties::Searching::HoldsAt, crate::specs::ties::Searching::left_of, crate::specs::ties::Searching::rank))]
 fn end_replies<R: Rules>(task: &Task, first: First, board: &mut Board) -> TriesProgress
     requires contest { IsContest (contest_of task.now) }
@@ -174,7 +174,7 @@ pub(crate) fn walk_threats<R: Rules, const N: usize>(
     }
 }
 
-/// Plays a reply and opens the walk over what stands below it. Returns what takes it back, and its event.
+/// Plays a reply and opens the walk over the moves shown after it. Returns what takes it back, and its event.
 #[tactic(auto, using(chess_rules::proofs::LegalMoves::may_be_made))]
 fn play_reply<R: Rules, const N: usize>(
     task: &Task,
@@ -205,8 +205,8 @@ fn play_reply<R: Rules, const N: usize>(
     (undo, event)
 }
 
-/// Finds the next reply that is shown, plays it, and opens the walk over what stands below it; after the last
-/// one what is shown below the first move ends.
+/// Finds the next reply that is shown, plays it, and opens the walk over the moves shown after it; after the last
+/// reply ends what is shown after the first move.
 #[tactic(auto, using(chess_rules::proofs::LegalMoves::may_be_made), unfolding(crate::specs::ties::Searching::HoldsAt, crate::specs::ties::Searching::rank))]
 pub(crate) fn find_reply<R: Rules, const N: usize>(
     task: &Task,

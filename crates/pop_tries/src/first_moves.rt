@@ -76,8 +76,8 @@ fn is_key_or_noted<R: Rules, const N: usize>(
 }
 
 /// Plays the next key after `place`, and moves `place` to it. Notes the first moves before it that may be
-/// tries among `candidates`, which keep some. Returns the key, what takes it back, and its refutations: none; after the last
-/// one `None`, with the board unchanged.
+/// tries among `candidates`, which keep some. Returns the key, what takes it back, and its refutations: none;
+/// after the last one `None`, with the board unchanged.
 #[tactic(auto, using(crate::proofs::Candidates::key_refuting, crate::proofs::Loops::filtering, chess_rules::proofs::LegalMoves::may_be_made))]
 fn play_next_key<R: Rules, const N: usize>(
     task: &Task,
@@ -138,8 +138,8 @@ fn is_try_as_kept<R: Rules, const N: usize>(
 }
 
 /// Plays the next try after `place` with at most `task.most` refutations, and moves `place` to it. Tests only
-/// the `candidates` that aren't kept at `index`. Returns the try, what takes it back, and a set that holds its refutations; after the last
-/// one `None`, with the board unchanged.
+/// the `candidates` that aren't kept at `index`. Returns the try, what takes it back, and a set that holds its
+/// refutations; after the last one `None`, with the board unchanged.
 #[tactic(auto, using(crate::proofs::Loops::filtering, chess_rules::proofs::LegalMoves::may_be_made))]
 fn play_next_try<R: Rules, const N: usize>(
     task: &Task,

@@ -32,12 +32,12 @@ mod group;
 mod kept_tries;
 mod laws;
 mod move_set;
+mod progress;
 mod refuting;
 mod replies;
 mod search;
 mod set_play;
 mod shown;
-mod progress;
 mod threats;
 
 pub use laws::{
@@ -45,5 +45,5 @@ pub use laws::{
     no_event_comes_twice, refutations_are_defences, stalemate_refutes,
 };
 pub use pop_events::TryEvent;
-pub use search::TriesSearch;
 pub use progress::MOST_REFUTATIONS;
+pub use search::TriesSearch;

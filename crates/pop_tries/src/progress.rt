@@ -145,7 +145,7 @@ pub enum TriesProgress {
         first: First,
         place: MovePlace,
     },
-    /// What stands below a reply.
+    /// The moves shown after a reply.
     BelowReply {
         first: First,
         reply: Played,

@@ -51,8 +51,8 @@ impl<R: Rules, const N: usize> TriesSearch<R, N> {
     ghost use Rattle.pop_tries.specs.Events.{try_events};
     ghost use Rattle.pop_tries.specs.Shown.{try_event_of};
 
-    /// Returns a search before its first event. Tries have at most `most` refutations, 0 to `MOST_REFUTATIONS`. `N` must be
-    /// more than the half-moves of the play.
+    /// Returns a search before its first event. Tries have at most `most` refutations, 0 to `MOST_REFUTATIONS`. `N`
+    /// must be more than the half-moves of the play.
     pub fn new(problem: &Problem, most: u32) -> Self
         requires room { half_moves problem.now.stipulation < N }
         requires few { most ≤ MOST_REFUTATIONS }

@@ -25,7 +25,7 @@ use pop_battle::search_state::SearchState;
 use pop_events::{Event, Phase};
 use pop_input::{MOST_FRAMES, Problem};
 
-/// What a search covers.
+/// How much of a problem a search walks.
 #[derive(Clone, Copy)]
 pub enum Scope {
     /// A whole problem: the play follows set play.
@@ -34,7 +34,7 @@ pub enum Scope {
     Part,
 }
 
-/// How a phase is walked: the phase, its mode, its number of half-moves, and what the search covers.
+/// How a phase is walked: the phase, its mode, its number of half-moves, and how much of the problem follows.
 #[derive(Clone, Copy)]
 pub struct Walk {
     pub phase: Phase,

@@ -9,8 +9,8 @@
 //! let report = &output[..written];
 //! ```
 //!
-//! The interface is `pops_report`, `pops_tries`, `pops_list`, `pops_faults` and `pops_part`, which are exported by these
-//! names. They use a source and a sink in memory, `text_source` and `memory_sink`. `specs/Page.antt` and
+//! The interface is `pops_report`, `pops_tries`, `pops_list`, `pops_faults` and `pops_part`, which are exported by
+//! these names. They use a source and a sink in memory, `text_source` and `memory_sink`. `specs/Page.antt` and
 //! `specs/ties/FaultsShown.antt` define what the calls return. No call allocates.
 #![tactic(auto)]
 

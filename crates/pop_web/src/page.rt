@@ -1,5 +1,5 @@
-//! The calls of the page: a text's report, with or without tries, the lists of its parts and faults, the solutions of one
-//! part.
+//! The calls of the page: a text's report, with or without tries, the lists of its parts and faults, the solutions of
+//! one part.
 ghost use Rattle.std.specs.Prelude.{◌≡◌, ◌<◌, ◌≤◌, length, take};
 ghost use Rattle.pop_web.specs.ties.FaultsShown.{ShowsFaults};
 ghost use Rattle.pop_web.specs.Page.{Lists, Shows, ShowsItems, ShowsParts, ShowsTries, depth_of as depth_by, status_number, outcome_number, part_of as part_by, phase_of as phase_by, room, too_small};
