@@ -11,10 +11,10 @@
 //! assert!(rt; sink.text() == b"1: fault 5, line 1, bytes 30 up to 33\n".as_slice());
 //! ```
 //!
-//! The interface is `list_faults`. `specs/FaultList.antt` defines the text of the list, `specs/ties/FaultRuns.antt` what
-//! the call does, by the spans of `pop_input`.
+//! The interface is `list_faults`. `specs/FaultList.antt` defines the text of the list, `specs/ties/FaultRuns.antt`
+//! what the call does, by the spans of `pop_input`.
 #![tactic(auto)]
 
-pub mod listing;
+mod listing;
 
 pub use listing::list_faults;

@@ -74,11 +74,11 @@ module _ (rule : RuleSet) (h d : ℕ) (p : Position) (top : Frame) (old new : Li
   deep = omega (arith, s.within, ap length at_top)
 
   -- a frame without moves is closed
-  pub attacker_to_move-closed : (now after : Position) (depth : ℕ) → now ≡ board → depth ≡ length new → moves_after rule board top.place ≡ []
+  pub seeks-closed : (now after : Position) (depth : ℕ) → now ≡ board → depth ≡ length new → moves_after rule board top.place ≡ []
       → (depth ≡ 0 → after ≡ now) → ((q : Position) → 0 < depth → CameFromAt rule top now q → after ≡ q)
       → Seeks rule h d p (reverse old) (reverse new) after None
   unfolding are_idle walk_work
-  attacker_to_move-closed now after depth e at none lowest before =
+  seeks-closed now after depth e at none lowest before =
       let walking = walking-close rule h p top (reverse new) board after on_top in
       rw at_top (search (rules, walking, idle_top, deep, come-closed, on_top.board_at, length-reverse))
 
@@ -99,9 +99,9 @@ module _ (rule : RuleSet) (h d : ℕ) (p : Position) (top : Frame) (old new : Li
     following = rw (← top_listed.board_at) next.0
 
     -- the next move ends a beginning
-    pub attacker_to_move-found : length mid ≡ d → Seeks rule h d p (reverse old) (reverse mid) now (Some m)
+    pub seeks-found : length mid ≡ d → Seeks rule h d p (reverse old) (reverse mid) now (Some m)
     unfolding are_idle walk_work position beginnings_to_come path
-    attacker_to_move-found last =
+    seeks-found last =
         let at : length (reverse new) + 1 ≡ d = omega (arith, last, length-reverse new, ap length put ∙ length-append new (moved f place ∷ [])) in
         let walking = walking-moved rule h p f place (reverse new) board board top_listed in
         let found = λ (goal : Goal). come-found goal rule d p f place m (reverse new) following at in
@@ -110,11 +110,11 @@ module _ (rule : RuleSet) (h d : ℕ) (p : Position) (top : Frame) (old new : Li
         rw (at_top, at_mid, e) (search (rules, walking, idle_top, deep, s.room, found, at, falls, following))
 
     -- the next move leads on to a deeper frame
-    pub attacker_to_move-deeper : (undo : Undo) (after : Position) (last : List Frame) → length mid ≢ d → undo ≡ undo_of rule now m
+    pub seeks-deeper : (undo : Undo) (after : Position) (last : List Frame) → length mid ≢ d → undo ≡ undo_of rule now m
         → after ≡ position_after rule now m
         → last ≡ mid ++ opened_frame m undo 0 ∷ [] → Seeks rule h d p (reverse old) (reverse last) after None
     unfolding are_idle walk_work position beginnings_to_come path
-    attacker_to_move-deeper undo after last other u a pushed =
+    seeks-deeper undo after last other u a pushed =
         let size = ap length put ∙ length-append new (moved f place ∷ []) in
         let less : length (reverse new) + 1 < d = grind (arith, deep, other, length-reverse new, size) in
         let at_last = popped last mid _ pushed in

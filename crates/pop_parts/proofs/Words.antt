@@ -25,7 +25,7 @@ pub use Rattle.pop_parts.specs.Runs.{Lists, ReadsItems, Shows}
 pub use Rattle.pop_walk.proofs.theorems.Lists.{IsPlayable, StandsBefore, never_before_itself}
 pub use Rattle.pop_walk.proofs.Paths.{cut-at, path-length, path-more, path_end-append, path_end-path, position-more, some-taken}
 pub use Rattle.std.proofs.lemmas.List.{length-drop, take_all}
-pub use Rattle.pop_walk.specs.declared.phases.Stage.{Stage}
+pub use Rattle.pop_walk.specs.declared.phases.Progress.{Progress}
 pub use Rattle.pop_parts.specs.ties.PartsSeen.{IsPartOpened, part_walk}
 pub use Rattle.pop_run.proofs.Findings.{IsPrinting, first_shown, printing_breaks_off, printing_goes_on}
 pub use Rattle.chess_rules.specs.Legal.{moves as legal_moves}

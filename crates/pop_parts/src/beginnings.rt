@@ -62,7 +62,7 @@ fn seek<R: Rules, const N: usize>(
     requires seeking { (h : ℕ) × (p : Position)
         × IsSeeking R.rule h depth p (reverse frames.old.items) board.old }
     requires open { 0 < array_vec_len frames.old }
-    ensures attacker_to_move { (h : ℕ) (p : Position)
+    ensures seeks { (h : ℕ) (p : Position)
         → IsSeeking R.rule h depth p (reverse frames.old.items) board.old
         → Seeks R.rule h depth p (reverse frames.old.items) (reverse frames.new.items) board.new
         result }

@@ -12,19 +12,19 @@
 //! assert!(rt; sink.text() == b"1: play 19\n".as_slice());
 //! ```
 //!
-//! The interface is what the root re-exports, with `count_parts` of `beginnings`, which counts the parts of a
-//! phase.
+//! The interface is what the root re-exports.
 #![tactic(auto)]
 
-pub mod beginnings;
+mod beginnings;
 mod items;
-pub mod list;
-pub mod part_search;
+mod list;
+mod part_search;
 mod remaining_parts;
 pub mod request;
 mod searching;
-pub mod show;
+mod show;
 
+pub use beginnings::count_parts;
 pub use list::list_parts;
 pub use part_search::PartSearch;
 pub use request::{Outcome, PartRequest};

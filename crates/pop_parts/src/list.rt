@@ -163,8 +163,8 @@ fn count_under<R: Rules>(problem: &Problem, phase: Phase, depth: usize) -> Optio
     }
 }
 
-// Returns whether the phase isn't possible: it is set play, and the side that isn't to move would be in
-// check.
+// Returns whether the phase isn't possible: it is set play, which the other side starts, and the diagram's side to move
+// is in check.
 #[tactic(auto, unfolding(pop_battle::specs::Chess::is_impossible, chess_core::specs::Diagrams::position_of))]
 fn is_impossible_phase<R: Rules>(problem: &Problem, phase: Phase) -> bool
     ensures { result ≡ barred R.rule problem.now phase }

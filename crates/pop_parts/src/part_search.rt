@@ -13,7 +13,7 @@ use pop_battle::search_state::{SearchState, show_fits_u64};
 use pop_events::{Event, Phase};
 use pop_input::{MOST_FRAMES, Problem};
 use pop_walk::beginning::begin_after;
-use pop_walk::phases::{Stage, advance};
+use pop_walk::phases::{Progress, advance};
 use std::marker::Model;
 
 /// Returns the moves that lead to the top frame, followed by `by`.
@@ -40,7 +40,7 @@ pub struct PartSearch<R: Rules, const N: usize> {
     problem: Problem,
     phase: Phase,
     front: ArrayVec<Move, N>,
-    stage: Stage,
+    progress: Progress,
     board: Board,
     frames: ArrayVec<Frame<R>, N>,
     search_state: SearchState,
@@ -51,7 +51,7 @@ impl<R: Rules, const N: usize> Model for PartSearch<R, N> {
     ghost use Rattle.arrayvec.specs.ArrayVec.{array_vec_len};
     ghost use Rattle.pop_input.specs.Posed.{IsSound};
     ghost use Rattle.pop_stipulation.specs.Stipulations.{half_moves};
-    ghost use Rattle.pop_walk.specs.ties.Phases.{left_of, HoldsAtStage};
+    ghost use Rattle.pop_walk.specs.ties.Phases.{left_of, HoldsAtProgress};
     ghost use Rattle.pop_parts.specs.ties.PartsSeen.{PartSeen, IsPartOpened};
 
     ghost Value = { PartSeen };
@@ -60,7 +60,7 @@ impl<R: Rules, const N: usize> Model for PartSearch<R, N> {
       problem = s.problem;
       phase = s.phase;
       front = s.front.items;
-      left = left_of R.rule s.problem s.stage (reverse s.frames.items);
+      left = left_of R.rule s.problem s.progress (reverse s.frames.items);
       board = s.board;
       depth = array_vec_len s.frames;
       opened = s.search_state.opened;
@@ -69,8 +69,8 @@ impl<R: Rules, const N: usize> Model for PartSearch<R, N> {
 
     ghost invariant = { λ s. IsSound s.problem
         × (half_moves s.problem.stipulation < N)
-        × HoldsAtStage R.rule s.problem s.stage (reverse s.frames.items) s.board
-        × IsPartOpened R.rule s.problem s.phase s.front.items s.stage (reverse s.frames.items)
+        × HoldsAtProgress R.rule s.problem s.progress (reverse s.frames.items) s.board
+        × IsPartOpened R.rule s.problem s.phase s.front.items s.progress (reverse s.frames.items)
         s.search_state.opened };
 }
 
@@ -142,7 +142,7 @@ impl<R: Rules, const N: usize> PartSearch<R, N> {
     {
         let front = front_of::<R, N>(&frames, by);
         let mut search_state = SearchState::with(killers);
-        let stage = begin_after::<R, N>(
+        let progress = begin_after::<R, N>(
             problem,
             phase,
             by,
@@ -154,7 +154,7 @@ impl<R: Rules, const N: usize> PartSearch<R, N> {
             problem: *problem,
             phase,
             front,
-            stage,
+            progress,
             board,
             frames,
             search_state,
@@ -179,7 +179,7 @@ impl<R: Rules, const N: usize> PartSearch<R, N> {
         let mut event = None;
         advance::<R, N, true>(
             &self.problem,
-            &mut self.stage,
+            &mut self.progress,
             &mut self.board,
             &mut self.frames,
             &mut self.search_state,

@@ -15,18 +15,18 @@
 //!
 //! The interface is `run` and `Session`, which reports one item a call, with `Settings`, `Choice`, `Status` and
 //! `Step`. `run_with` and `Session::with` write items in the way of an `ItemWriter`, `print_sound` a sound problem with
-//! the play of a `PlayWriter`. The module `solutions` is internal.
+//! the play of a `PlayWriter`.
 //! `specs/Report.antt` defines the report, `specs/Run.antt` what a run does. No call allocates.
 #![tactic(auto)]
 
 pub mod choice;
-pub mod item_writer;
-pub mod laws;
-pub mod play_writer;
-pub mod session;
+mod item_writer;
+mod laws;
+mod play_writer;
+mod session;
 mod solutions;
 pub mod status;
-pub mod whole_run;
+mod whole_run;
 
 pub use choice::Choice;
 pub use item_writer::ItemWriter;

@@ -82,8 +82,8 @@ impl<I: ItemWriter> Session<I> {
     ///
     /// # Errors
     ///
-    /// `SinkFault` if the sink fails: a beginning of the item's report is then written. Every later call returns `SinkFault`
-    /// and calls neither source nor sink.
+    /// `SinkFault` if the sink fails: a beginning of the item's report is then written. Every later call returns
+    /// `SinkFault` and calls neither source nor sink.
     pub fn step<S: Source, W: Sink>(
         &mut self,
         source: &mut S,
@@ -138,7 +138,7 @@ impl<I: ItemWriter> Session<I> {
     // Returns the step of an item that is sound or not. If the item couldn't be printed, stops the session.
     fn step_after(&mut self, printed: Result<(), SinkFault>, step: Step) -> Result<Step, SinkFault>
         ensures step { result ≡ step_of printed step }
-        ensures place { self.new ≡ record self.old {
+        ensures stops { self.new ≡ record self.old {
           stopped = self.old.stopped
               || is_err printed;
         } }

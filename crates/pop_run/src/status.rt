@@ -16,8 +16,8 @@ pub enum Status {
 }
 
 impl Status {
-    /// Returns the exit status of a program whose run ends so, 0, 1 or 3, or `None` if a write or the last flush failed:
-    /// the program then reports that failure.
+    /// Returns the exit status of a program whose run ends so, 0, 1 or 3, or `None` if a write or the last flush
+    /// failed: the program then reports that failure.
     pub fn exit_status(self, is_flushed: bool) -> Option<u8>
         ensures { result ≡ exit_status_of self is_flushed }
     {

@@ -9,13 +9,12 @@
 //! ```
 //!
 //! The interface is `settings` with `Settings` and `ArgFault` for `pops`, and the modules `pops_part` and `pops_tries`.
-//! The module `commands` is internal. `specs/` define the command lines by clap's own definitions. Only `settings`
-//! allocates.
+//! `specs/` define the command lines by clap's own definitions. Only `settings` allocates.
 #![tactic(auto)]
 
-pub mod arg_fault;
+mod arg_fault;
 mod commands;
-pub mod pops;
+mod pops;
 pub mod pops_part;
 pub mod pops_tries;
 

@@ -27,9 +27,9 @@
 //! `pop_parts` and `pop_tries` share. No call allocates.
 #![tactic(auto)]
 
-pub mod laws;
-pub mod pruned_search;
-pub mod search;
+mod laws;
+mod pruned_search;
+mod search;
 
 pub use laws::no_path_comes_twice;
 pub use pop_battle::frame::Frame;

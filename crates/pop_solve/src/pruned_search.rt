@@ -7,7 +7,7 @@ use pop_battle::killers::Killers;
 use pop_battle::search_state::{SearchState, show_fits_u64};
 use pop_events::Event;
 use pop_input::Problem;
-use pop_walk::phases::{Stage, advance, first_phase};
+use pop_walk::phases::{Progress, advance, first_phase};
 use std::marker::Model;
 
 /// A search that returns the same events as `Search`, with the same board and frames, but in help play doesn't
@@ -16,7 +16,7 @@ use std::marker::Model;
 #[derive(Drop)]
 pub struct PrunedSearch<R: Rules, const N: usize> {
     problem: Problem,
-    stage: Stage,
+    progress: Progress,
     board: Board,
     frames: ArrayVec<Frame<R>, N>,
     search_state: SearchState,
@@ -31,13 +31,13 @@ impl<R: Rules, const N: usize> Model for PrunedSearch<R, N> {
     ghost use Rattle.pop_walk.specs.Events.{events};
     ghost use Rattle.pop_walk.specs.ties.Seen.{Seen};
     ghost use Rattle.pop_walk.specs.ties.Counts.{IsOpened};
-    ghost use Rattle.pop_walk.specs.ties.Phases.{left_of, HoldsAtStage, IsCountedUpTo};
+    ghost use Rattle.pop_walk.specs.ties.Phases.{left_of, HoldsAtProgress, IsCountedUpTo};
 
     ghost Value = { Seen };
 
     ghost view = { λ s. record {
       problem = s.problem;
-      left = left_of R.rule s.problem s.stage (reverse s.frames.items);
+      left = left_of R.rule s.problem s.progress (reverse s.frames.items);
       board = s.board;
       depth = array_vec_len s.frames;
       given = s.given;
@@ -46,10 +46,11 @@ impl<R: Rules, const N: usize> Model for PrunedSearch<R, N> {
 
     ghost invariant = { λ s. IsSound s.problem
         × (half_moves s.problem.stipulation < N)
-        × HoldsAtStage R.rule s.problem s.stage (reverse s.frames.items) s.board
+        × HoldsAtProgress R.rule s.problem s.progress (reverse s.frames.items) s.board
         × IsCountedUpTo R.rule s.problem
-        (left_of R.rule s.problem s.stage (reverse s.frames.items)) s.given
-        × IsOpened true R.rule s.problem s.stage (reverse s.frames.items) s.search_state.opened };
+        (left_of R.rule s.problem s.progress (reverse s.frames.items)) s.given
+        × IsOpened true R.rule s.problem s.progress (reverse s.frames.items)
+        s.search_state.opened };
 }
 
 impl<R: Rules, const N: usize> PrunedSearch<R, N> {
@@ -65,7 +66,7 @@ impl<R: Rules, const N: usize> PrunedSearch<R, N> {
     /// Returns a search before its first event: its board has the play's first position, and no frame is in
     /// use. `N` must be more than the half-moves of the play, and `R` must be the rules of the problem's
     /// condition.
-    #[tactic(auto, using(pop_walk::proofs::Sound::ways_to_play), unfolding(pop_walk::specs::ties::Counts::least_if, pop_walk::specs::ties::Counts::untried_at, pop_walk::specs::ties::Phases::HoldsAtStage, pop_walk::specs::ties::Phases::left_of))]
+    #[tactic(auto, using(pop_walk::proofs::Sound::ways_to_play), unfolding(pop_walk::specs::ties::Counts::least_if, pop_walk::specs::ties::Counts::untried_at, pop_walk::specs::ties::Phases::HoldsAtProgress, pop_walk::specs::ties::Phases::left_of))]
     pub fn new(problem: &Problem) -> Self
         requires room { half_moves problem.now.stipulation < N }
         requires rule { R.rule ≡ rule_of problem.now.condition }
@@ -77,7 +78,7 @@ impl<R: Rules, const N: usize> PrunedSearch<R, N> {
     {
         PrunedSearch {
             problem: *problem,
-            stage: Stage::Before {
+            progress: Progress::Before {
                 phase: first_phase(problem),
             },
             board: Board::of(&problem.diagram()),
@@ -103,7 +104,7 @@ impl<R: Rules, const N: usize> PrunedSearch<R, N> {
         let mut event = None;
         advance::<R, N, true>(
             &self.problem,
-            &mut self.stage,
+            &mut self.progress,
             &mut self.board,
             &mut self.frames,
             &mut self.search_state,
@@ -117,7 +118,7 @@ impl<R: Rules, const N: usize> PrunedSearch<R, N> {
 
     /// Returns the number of frames in use, at most `N`. After a line or node it is one more than its
     /// path has moves.
-    #[tactic(auto, using(pop_walk::proofs::Events::roomy), unfolding(pop_walk::specs::ties::Phases::HoldsAtStage))]
+    #[tactic(auto, using(pop_walk::proofs::Events::roomy), unfolding(pop_walk::specs::ties::Phases::HoldsAtProgress))]
     pub fn depth(&self) -> usize
         ensures depth { result ≡ self.now.depth }
         ensures most { result ≤ half_moves self.now.problem.stipulation + 1 }

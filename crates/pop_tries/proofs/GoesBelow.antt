@@ -20,8 +20,8 @@ use Rattle.pop_tries.specs.declared.contest.Contest.{Contest}
 use Rattle.pop_events.specs.declared.try_event.TryEvent.TheVariants.{Key, Node, Try}
 use Rattle.pop_tries.specs.declared.first_moves.Group.{Group}
 use Rattle.pop_tries.specs.declared.first_moves.Group.TheVariants.{Keys, Tries}
-use Rattle.pop_tries.specs.declared.stage.First.{First}
-use Rattle.pop_tries.specs.declared.stage.Task.{Task}
+use Rattle.pop_tries.specs.declared.progress.First.{First}
+use Rattle.pop_tries.specs.declared.progress.Task.{Task}
 use Rattle.pop_tries.specs.declared.threats.Threat.{Threat}
 use Rattle.pop_tries.specs.ties.Contests.{AreThreats, Keeps, game_in}
 use Rattle.pop_tries.specs.ties.FirstMoves.{is_shown}

@@ -11,18 +11,18 @@ use Rattle.pop_events.specs.declared.try_event.TryEvent.{TryEvent}
 use Rattle.pop_tries.specs.declared.kept_tries.Candidates.{Candidates}
 use Rattle.pop_tries.specs.declared.first_moves.Group.{Group}
 use Rattle.pop_tries.specs.declared.refuting.Refuting.{Refuting}
-use Rattle.pop_tries.specs.declared.stage.First.{First}
-use Rattle.pop_tries.specs.declared.stage.Firsts.{Firsts}
-use Rattle.pop_tries.specs.declared.stage.Task.{Task}
-use Rattle.pop_tries.specs.declared.stage.TriesStage.{TriesStage}
-use Rattle.pop_tries.specs.declared.stage.TriesStage.TheVariants.{Beginning, Faced, FirstMove}
+use Rattle.pop_tries.specs.declared.progress.First.{First}
+use Rattle.pop_tries.specs.declared.progress.Firsts.{Firsts}
+use Rattle.pop_tries.specs.declared.progress.Task.{Task}
+use Rattle.pop_tries.specs.declared.progress.TriesProgress.{TriesProgress}
+use Rattle.pop_tries.specs.declared.progress.TriesProgress.TheVariants.{Beginning, Faced, FirstMove}
 use Rattle.pop_tries.specs.ties.Contests.{IsContest}
 use Rattle.pop_tries.specs.ties.FirstMoves.{AreRefuting}
 use Rattle.pop_tries.specs.ties.Searching.{Emits, GoesWith, IsPlaced, IsTask, after_first, HoldCandidates, beginning_of, contest_of, ending_of, first_event, firsts_after, group_left, is_stopped, rank}
 unfoldable use Rattle.pop_tries.specs.ties.Searching.{HoldsAt, left_of}
 use Rattle.pop_tries.proofs.Steps.{group_begins, next_first, still_few, still_limited}
 
-module _ (rule : RuleSet) (task : Task) (old new : TriesStage) (was items : List Frame) (board : Position)
+module _ (rule : RuleSet) (task : Task) (old new : TriesProgress) (was items : List Frame) (board : Position)
     (holds : HoldsAt rule task new items board) where
   -- a step with an event
   pub with_event : (shown : TryEvent) (bare : BareTryEvent) → left_of rule task old was ≡ bare ∷ left_of rule task new items
@@ -45,7 +45,7 @@ unfolding left_of
 group_comes rule task group before candidates place e was items = rw e (group_begins rule task group)
 
 -- a group ends
-pub group_ended : (rule : RuleSet) (task : Task) (firsts : Firsts) (new : TriesStage) (was items : List Frame) (board : Position)
+pub group_ended : (rule : RuleSet) (task : Task) (firsts : Firsts) (new : TriesProgress) (was items : List Frame) (board : Position)
     (event : Option TryEvent) → HoldsAt rule task new items board
     → Emits rule task (ending_of rule task firsts.group firsts.count) (left_of rule task new items) event → is_some event ≡ true
     → group_left rule task firsts ≡ ending_of rule task firsts.group firsts.count → GoesWith rule task (FirstMove firsts) was new items board event

@@ -8,10 +8,10 @@ use Rattle.pop_stipulation.specs.declared.stipulation.Form.{Form}
 use Rattle.pop_tries.specs.Events.{events_by}
 use Rattle.pop_tries.specs.Shown.{try_event_of}
 use Rattle.pop_events.specs.declared.try_event.TryEvent.{TryEvent}
-use Rattle.pop_tries.specs.declared.stage.Course.{Course}
-use Rattle.pop_tries.specs.declared.stage.Task.{Task}
-use Rattle.pop_tries.specs.declared.stage.TheConstants.{MOST_REFUTATIONS}
-use Rattle.pop_tries.specs.declared.stage.TriesStage.{TriesStage}
+use Rattle.pop_tries.specs.declared.progress.Course.{Course}
+use Rattle.pop_tries.specs.declared.progress.Task.{Task}
+use Rattle.pop_tries.specs.declared.progress.TheConstants.{MOST_REFUTATIONS}
+use Rattle.pop_tries.specs.declared.progress.TriesProgress.{TriesProgress}
 use Rattle.pop_tries.proofs.Candidates.{none_are_kept}
 use Rattle.pop_tries.specs.ties.Searching.{Emits, IsOnCourse, contest_of, course_by, first_course, is_over, left_on, task_of}
 unfoldable use Rattle.pop_tries.specs.ties.Searching.{HoldsAt, left_of}
@@ -66,7 +66,7 @@ emitted rule _ start old new None same e s = absurd (false≢true s)
 emitted rule _ start old new (Some shown) same e s = (e.0, same ∙ e.1, e.2)
 
 -- nothing is left to come
-pub over_empty : (rule : RuleSet) (task : Task) (stage : TriesStage) (items : List Frame) → is_over stage ≡ true
-    → left_of rule task stage items ≡ []
+pub over_empty : (rule : RuleSet) (task : Task) (progress : TriesProgress) (items : List Frame) → is_over progress ≡ true
+    → left_of rule task progress items ≡ []
 unfolding left_of
-over_empty rule task stage items e = search rules
+over_empty rule task progress items e = search rules

@@ -6,10 +6,10 @@ use Rattle.pop_battle.specs.ties.Frames.{Frame}
 use Rattle.pop_battle.proofs.Words.{append_assoc}
 use Rattle.pop_walk.specs.Events.{BareEvent, impossible, is_impossible_phase, opening, phase_count, phase_start, solutions}
 use Rattle.pop_walk.specs.declared.phases.Scope.TheVariants.{Part}
-use Rattle.pop_walk.specs.declared.phases.Stage.{Stage}
-use Rattle.pop_walk.specs.declared.phases.Stage.TheVariants.{After, NotPossible as NotPossiblePhase, Before, First, Within as WithinPhase}
+use Rattle.pop_walk.specs.declared.phases.Progress.{Progress}
+use Rattle.pop_walk.specs.declared.phases.Progress.TheVariants.{After, NotPossible as NotPossiblePhase, Before, First, Within as WithinPhase}
 use Rattle.pop_walk.specs.ties.Phases.{beginning_count, kept_paths, phase_paths}
-unfoldable use Rattle.pop_walk.specs.ties.Phases.{HoldsAtStage, left_of as set_play_left}
+unfoldable use Rattle.pop_walk.specs.ties.Phases.{HoldsAtProgress, left_of as set_play_left}
 use Rattle.pop_walk.specs.ties.Modes.{walk_of}
 use Rattle.pop_walk.specs.declared.phases.Walk.{Walk}
 use Rattle.pop_walk.specs.ties.Walk.{IsWalking}
@@ -23,10 +23,10 @@ use Rattle.pop_walk.specs.Events.{phase_half_moves}
 use Rattle.std.specs.Prelude.{None}
 use Rattle.pop_tries.proofs.Words.{IsWellFormed}
 use Rattle.pop_stipulation.specs.Stipulations.{is_help}
-use Rattle.pop_tries.specs.declared.stage.Task.{Task}
+use Rattle.pop_tries.specs.declared.progress.Task.{Task}
 use Rattle.pop_tries.specs.declared.first_moves.Group.TheVariants.{Keys}
 use Rattle.pop_tries.specs.ties.Candidates.{candidates_of}
-use Rattle.pop_tries.specs.declared.stage.TriesStage.TheVariants.{Beginning, NotPossible, SetPlay, Within}
+use Rattle.pop_tries.specs.declared.progress.TriesProgress.TheVariants.{Beginning, NotPossible, SetPlay, InSetPlay}
 unfoldable use Rattle.pop_tries.specs.ties.Searching.{left_of}
 use Rattle.std.specs.Prelude.{reverse}
 use Rattle.std.proofs.lemmas.List.{length-reverse, nil_from_length}
@@ -50,9 +50,9 @@ some_left : {X C : Type 0} (xs : List X) (x : X) (ys : List X) → xs ++ x ∷ y
 some_left xs x ys e = absurd (omega (arith, ap length e, length-append xs (x ∷ ys)))
 
 -- with nothing left of set play no frame is in use
-pub none_after : (rule : RuleSet) (problem : Posed) (stage : Stage) (frames : List Frame) (board : Position)
-    → HoldsAtStage rule problem stage frames board → set_play_left rule problem stage frames ≡ [] → frames ≡ []
-unfolding HoldsAtStage set_play_left
+pub none_after : (rule : RuleSet) (problem : Posed) (progress : Progress) (frames : List Frame) (board : Position)
+    → HoldsAtProgress rule problem progress frames board → set_play_left rule problem progress frames ≡ [] → frames ≡ []
+unfolding HoldsAtProgress set_play_left
 none_after rule problem (Before phase) frames board h e = h.0
 none_after rule problem NotPossiblePhase frames board h e = h.0
 none_after rule problem (First walk) frames board h e = some_left _ _ _ e
@@ -84,7 +84,7 @@ module _ (rule : RuleSet) (task : Task) where
   pub left_begun : (was items : List Frame) (walk : Walk) → walk ≡ walk_of task.problem Set Part → is_impossible_phase rule task.problem Set ≡ false
       → IsCutInto (is_help task.problem.stipulation.form) task.problem.max_solutions (phase_paths rule task.problem Set (reverse items))
       (solutions rule task.problem Set)
-      → left_of rule task SetPlay was ≡ set_event (opening Set) ∷ left_of rule task (Within (WithinPhase walk 0)) items
+      → left_of rule task SetPlay was ≡ set_event (opening Set) ∷ left_of rule task (InSetPlay (WithinPhase walk 0)) items
   unfolding left_of
   left_begun was items walk e i cut = rw (e, set_begun rule task.problem (reverse items) i cut.kept cut.begun) refl
 
@@ -95,15 +95,15 @@ module _ (rule : RuleSet) (task : Task) where
   left_barred was items i = rw (set_barred rule task.problem i) refl
 
   -- an event of set play
-  pub left_goes_on : (old new : Stage) (was items : List Frame) (bare : BareEvent)
+  pub left_goes_on : (old new : Progress) (was items : List Frame) (bare : BareEvent)
       → set_play_left rule task.problem old (reverse was) ≡ bare ∷ set_play_left rule task.problem new (reverse items)
-      → left_of rule task (Within old) was ≡ set_event bare ∷ left_of rule task (Within new) items
+      → left_of rule task (InSetPlay old) was ≡ set_event bare ∷ left_of rule task (InSetPlay new) items
   unfolding left_of
   left_goes_on old new was items bare e = rw e refl
 
   -- set play ends
-  pub left_ends : (old : Stage) (was items : List Frame) → set_play_left rule task.problem old (reverse was) ≡ []
-      → left_of rule task (Within old) was ≡ left_of rule task (Beginning Keys (candidates_of None)) items
+  pub left_ends : (old : Progress) (was items : List Frame) → set_play_left rule task.problem old (reverse was) ≡ []
+      → left_of rule task (InSetPlay old) was ≡ left_of rule task (Beginning Keys (candidates_of None)) items
   unfolding left_of
   left_ends old was items e = rw e refl
 

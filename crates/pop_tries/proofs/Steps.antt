@@ -12,9 +12,9 @@ use Rattle.chess_rules.specs.ties.Places.{moves_after}
 unfoldable use Rattle.chess_rules.specs.ties.Places.{met_after}
 use Rattle.pop_tries.specs.declared.first_moves.Group.{Group}
 use Rattle.pop_tries.specs.declared.first_moves.Group.TheVariants.{Keys, Tries}
-use Rattle.pop_tries.specs.declared.stage.Firsts.{Firsts}
+use Rattle.pop_tries.specs.declared.progress.Firsts.{Firsts}
 use Rattle.pop_tries.specs.declared.refuting.Refuting.{Refuting}
-use Rattle.pop_tries.specs.declared.stage.Task.{Task}
+use Rattle.pop_tries.specs.declared.progress.Task.{Task}
 use Rattle.pop_tries.specs.declared.threats.Threat.{Threat}
 use Rattle.pop_tries.specs.ties.Candidates.{candidates_of}
 use Rattle.pop_tries.specs.ties.Searching.{IsInLimit, below_and_after, after_first, beginning_of, contest_of, ending_of, events_of_first, first_event, firsts_after, firsts_left, group_left, is_stopped, shown_after, whole_group, within_limit}

@@ -11,10 +11,10 @@ use Rattle.pop_walk.specs.Events.{last_shown}
 use Rattle.pop_stipulation.specs.declared.stipulation.Goal.{Goal}
 use Rattle.std.specs.Prelude.{Option, reverse}
 use Rattle.pop_tries.specs.Tries.{reply_nodes}
-use Rattle.pop_tries.specs.declared.stage.First.{First}
-use Rattle.pop_tries.specs.declared.stage.Played.{Played}
-use Rattle.pop_tries.specs.declared.stage.Task.{Task}
-use Rattle.pop_tries.specs.declared.stage.TriesStage.TheVariants.{But, Faced, FirstMove, Refutation, Reply, Stalemate, Threats, BelowReply}
+use Rattle.pop_tries.specs.declared.progress.First.{First}
+use Rattle.pop_tries.specs.declared.progress.Played.{Played}
+use Rattle.pop_tries.specs.declared.progress.Task.{Task}
+use Rattle.pop_tries.specs.declared.progress.TriesProgress.TheVariants.{But, Faced, FirstMove, Refutation, Reply, Stalemate, Threats, BelowReply}
 use Rattle.pop_tries.specs.ties.Contests.{IsContest}
 use Rattle.pop_tries.specs.ties.FirstMoves.{is_shown}
 use Rattle.pop_tries.specs.ties.Searching.{after_first, below_and_after, contest_of, refutations_after, replies_after, shown_after, walk_left}

@@ -14,37 +14,37 @@ ghost use Rattle.pop_battle.specs.ties.Frames.{CameBy};
 ghost use Rattle.pop_walk.specs.Events.{game_of};
 ghost use Rattle.pop_stipulation.specs.Stipulations.{half_moves};
 ghost use Rattle.pop_events.specs.declared.try_event.TryEvent.TheVariants.{Node};
-ghost use Rattle.pop_tries.specs.declared.stage.TriesStage.TheVariants.{BelowReply, But, Faced, FirstMove, Refutation, Reply, Stalemate, Threats};
+ghost use Rattle.pop_tries.specs.declared.progress.TriesProgress.TheVariants.{BelowReply, But, Faced, FirstMove, Refutation, Reply, Stalemate, Threats};
 ghost use Rattle.pop_tries.specs.ties.Contests.{AreThreats, IsContest};
 ghost use Rattle.pop_tries.specs.ties.Searching.{after_first, below_and_after, contest_of, event_of_faced, left_of, Goes, HoldsAt, IsFirst, IsOnWalk, MayStep, rank, ShowsNode};
 
 use crate::below::{open_walk, shown_node, walk_on};
 use crate::desk::Desk;
 use crate::first_moves::{Group, next_refutation, next_reply};
+use crate::progress::{First, Played, Step, Task, TriesProgress};
 use crate::shown::shown;
-use crate::stage::{First, Played, Step, Task, TriesStage};
 use crate::threats::{find_threat, pass, unpass};
 use chess_core::{Board, Move, Square};
 use chess_rules::{MovePlace, Rules, Undo, has_legal_move, in_check, play, unplay};
 use pop_events::TryEvent;
 use pop_walk::mode::Mode;
 
-/// Takes a first move back. Returns the next stage.
+/// Takes a first move back. Returns the new progress.
 #[tactic(auto, using(chess_rules::proofs::LegalMoves::may_be_made))]
-fn end_first<R: Rules>(first: First, board: &mut Board) -> TriesStage
+fn end_first<R: Rules>(first: First, board: &mut Board) -> TriesProgress
     requires came { (p : Position) × CameBy R.rule first.by first.undo board.old p }
-    ensures stage { result ≡ FirstMove first.firsts }
+    ensures progress { result ≡ FirstMove first.firsts }
     ensures back { (p : Position) → CameBy R.rule first.by first.undo board.old p → board.new ≡ p }
 {
     unplay::<R>(board, first.by, first.undo);
-    TriesStage::FirstMove {
+    TriesProgress::FirstMove {
         firsts: first.firsts,
     }
 }
 
-/// Ends what is shown below a first move, but for the refutations of a try. Returns the next stage.
+/// Ends what is shown after a first move, except for the refutations of a try. Returns the new progress.
 #[tactic(auto, unfolding(crate::specs::ties::Searching::HoldsAt, crate::specs::ties::Searching::left_of, crate::specs::ties::Searching::rank))]
-fn end_replies<R: Rules>(task: &Task, first: First, board: &mut Board) -> TriesStage
+fn end_replies<R: Rules>(task: &Task, first: First, board: &mut Board) -> TriesProgress
     requires contest { IsContest (contest_of task.now) }
     requires first { IsFirst R.rule task.now first }
     requires board { board.old ≡ after_first R.rule task.now first.by }
@@ -54,7 +54,7 @@ fn end_replies<R: Rules>(task: &Task, first: First, board: &mut Board) -> TriesS
 {
     match first.firsts.group {
         Group::Keys => end_first::<R>(first, board),
-        Group::Tries { .. } => TriesStage::But { first },
+        Group::Tries { .. } => TriesProgress::But { first },
     }
 }
 
@@ -66,11 +66,11 @@ pub(crate) fn face<R: Rules, const N: usize>(
     desk: &mut Desk<R, N>,
 ) -> Step
     requires { MayStep R.rule task.now (Faced first) desk.old N }
-    ensures { Goes R.rule task.now (Faced first) desk.old result.stage desk.new result.event }
+    ensures { Goes R.rule task.now (Faced first) desk.old result.progress desk.new result.event }
 {
     if !has_legal_move::<R>(&mut desk.board) {
         return Step {
-            stage: end_replies::<R>(task, first, &mut desk.board),
+            progress: end_replies::<R>(task, first, &mut desk.board),
             event: None,
         };
     }
@@ -81,7 +81,7 @@ pub(crate) fn face<R: Rules, const N: usize>(
     }
     let checked = in_check::<R>(&desk.board, desk.board.turn());
     Step {
-        stage: TriesStage::Reply {
+        progress: TriesProgress::Reply {
             first,
             place: MovePlace::start(),
         },
@@ -109,12 +109,12 @@ fn begin_threats<R: Rules, const N: usize>(task: &Task, first: First, desk: &mut
     requires some { is_some first.threat ≡ true }
     requires reply { can_move (game_of R.rule task.now.problem)
         (after_first R.rule task.now first.by) ≡ true }
-    ensures { Goes R.rule task.now (Faced first) desk.old result.stage desk.new result.event }
+    ensures { Goes R.rule task.now (Faced first) desk.old result.progress desk.new result.event }
 {
     let crossed = pass(&mut desk.board);
     open_walk::<R, N>(Mode::of(&task.problem), task.half_moves_below(), desk);
     Step {
-        stage: TriesStage::Threats { first, crossed },
+        progress: TriesProgress::Threats { first, crossed },
         event: Some(TryEvent::Threat),
     }
 }
@@ -154,19 +154,19 @@ pub(crate) fn walk_threats<R: Rules, const N: usize>(
     desk: &mut Desk<R, N>,
 ) -> Step
     requires { MayStep R.rule task.now (Threats first crossed) desk.old N }
-    ensures { Goes R.rule task.now (Threats first crossed) desk.old result.stage desk.new
+    ensures { Goes R.rule task.now (Threats first crossed) desk.old result.progress desk.new
         result.event }
 {
     let next = next_node::<R, N>(task, desk);
     if let Some(event) = next {
         return Step {
-            stage: TriesStage::Threats { first, crossed },
+            progress: TriesProgress::Threats { first, crossed },
             event: Some(event),
         };
     }
     unpass(&mut desk.board, crossed);
     Step {
-        stage: TriesStage::Reply {
+        progress: TriesProgress::Reply {
             first,
             place: MovePlace::start(),
         },
@@ -174,7 +174,7 @@ pub(crate) fn walk_threats<R: Rules, const N: usize>(
     }
 }
 
-/// Plays a reply and opens the walk over what stands below it. Returns what takes it back, and its event.
+/// Plays a reply and opens the walk over the moves shown after it. Returns what takes it back, and its event.
 #[tactic(auto, using(chess_rules::proofs::LegalMoves::may_be_made))]
 fn play_reply<R: Rules, const N: usize>(
     task: &Task,
@@ -205,8 +205,8 @@ fn play_reply<R: Rules, const N: usize>(
     (undo, event)
 }
 
-/// Finds the next reply that is shown, plays it, and opens the walk over what stands below it; after the last
-/// one what is shown below the first move ends.
+/// Finds the next reply that is shown, plays it, and opens the walk over the moves shown after it; after the last
+/// reply ends what is shown after the first move.
 #[tactic(auto, using(chess_rules::proofs::LegalMoves::may_be_made), unfolding(crate::specs::ties::Searching::HoldsAt, crate::specs::ties::Searching::rank))]
 pub(crate) fn find_reply<R: Rules, const N: usize>(
     task: &Task,
@@ -215,13 +215,14 @@ pub(crate) fn find_reply<R: Rules, const N: usize>(
     desk: &mut Desk<R, N>,
 ) -> Step
     requires { MayStep R.rule task.now (Reply first place) desk.old N }
-    ensures { Goes R.rule task.now (Reply first place) desk.old result.stage desk.new result.event }
+    ensures { Goes R.rule task.now (Reply first place) desk.old result.progress desk.new
+        result.event }
 {
     let mut next = place;
     let found = next_reply::<R, N>(task.contest(), &first, &mut next, desk);
     let Some(by) = found else {
         return Step {
-            stage: end_replies::<R>(task, first, &mut desk.board),
+            progress: end_replies::<R>(task, first, &mut desk.board),
             event: None,
         };
     };
@@ -232,7 +233,7 @@ pub(crate) fn find_reply<R: Rules, const N: usize>(
         undo,
     };
     Step {
-        stage: TriesStage::BelowReply { first, reply },
+        progress: TriesProgress::BelowReply { first, reply },
         event: Some(event),
     }
 }
@@ -246,19 +247,19 @@ pub(crate) fn walk_reply<R: Rules, const N: usize>(
     desk: &mut Desk<R, N>,
 ) -> Step
     requires { MayStep R.rule task.now (BelowReply first reply) desk.old N }
-    ensures { Goes R.rule task.now (BelowReply first reply) desk.old result.stage desk.new
+    ensures { Goes R.rule task.now (BelowReply first reply) desk.old result.progress desk.new
         result.event }
 {
     let next = next_node::<R, N>(task, desk);
     if let Some(event) = next {
         return Step {
-            stage: TriesStage::BelowReply { first, reply },
+            progress: TriesProgress::BelowReply { first, reply },
             event: Some(event),
         };
     }
     unplay::<R>(&mut desk.board, reply.by, reply.undo);
     Step {
-        stage: TriesStage::Reply {
+        progress: TriesProgress::Reply {
             first,
             place: reply.place,
         },
@@ -274,16 +275,16 @@ pub(crate) fn begin_refutations<R: Rules, const N: usize>(
     desk: &mut Desk<R, N>,
 ) -> Step
     requires holds { HoldsAt R.rule task.now (But first) desk.old.frames.items desk.old.board }
-    ensures { Goes R.rule task.now (But first) desk.old result.stage desk.new result.event }
+    ensures { Goes R.rule task.now (But first) desk.old result.progress desk.new result.event }
 {
     if !has_legal_move::<R>(&mut desk.board) {
         return Step {
-            stage: TriesStage::Stalemate { first },
+            progress: TriesProgress::Stalemate { first },
             event: Some(TryEvent::But),
         };
     }
     Step {
-        stage: TriesStage::Refutation {
+        progress: TriesProgress::Refutation {
             first,
             place: MovePlace::start(),
         },
@@ -300,10 +301,11 @@ pub(crate) fn end_stalemate<R: Rules, const N: usize>(
 ) -> Step
     requires holds { HoldsAt R.rule task.now (Stalemate first) desk.old.frames.items
         desk.old.board }
-    ensures { Goes R.rule task.now (Stalemate first) desk.old result.stage desk.new result.event }
+    ensures { Goes R.rule task.now (Stalemate first) desk.old result.progress desk.new
+        result.event }
 {
     Step {
-        stage: end_first::<R>(first, &mut desk.board),
+        progress: end_first::<R>(first, &mut desk.board),
         event: Some(TryEvent::Stalemate),
     }
 }
@@ -317,20 +319,20 @@ pub(crate) fn find_refutation<R: Rules, const N: usize>(
     desk: &mut Desk<R, N>,
 ) -> Step
     requires { MayStep R.rule task.now (Refutation first place) desk.old N }
-    ensures { Goes R.rule task.now (Refutation first place) desk.old result.stage desk.new
+    ensures { Goes R.rule task.now (Refutation first place) desk.old result.progress desk.new
         result.event }
 {
     let mut next = place;
     let found = next_refutation::<R, N>(task.contest(), first.refuting, &mut next, desk);
     let Some(by) = found else {
         return Step {
-            stage: end_first::<R>(first, &mut desk.board),
+            progress: end_first::<R>(first, &mut desk.board),
             event: None,
         };
     };
     let shown = shown::<R>(task.problem.stipulation().goal, by, &mut desk.board);
     Step {
-        stage: TriesStage::Refutation { first, place: next },
+        progress: TriesProgress::Refutation { first, place: next },
         event: Some(TryEvent::Refutation(shown)),
     }
 }

@@ -13,7 +13,7 @@ pub struct Contest {
 }
 
 impl Contest {
-    /// Returns what White wants.
+    /// Returns the battle and its goal, without the number of moves.
     pub fn aim(self) -> Aim
         ensures battle { result.battle ≡ self.battle }
         ensures goal { result.goal ≡ self.stipulation.goal }

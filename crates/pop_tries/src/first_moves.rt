@@ -13,11 +13,11 @@ use crate::contest::Contest;
 use crate::desk::Desk;
 use crate::kept_tries::Candidates;
 use crate::move_set::{MoveSet, may_be, noted};
+use crate::progress::{First, Firsts, MOST_REFUTATIONS, Task};
 use crate::refuting::Refuting;
 use crate::replies::{
     are_two_refutations, count_refutations, is_key, is_key_unrefuted, is_refutation, is_try,
 };
-use crate::stage::{First, Firsts, MOST_REFUTATIONS, Task};
 use crate::threats::is_defence;
 use chess_core::Move;
 use chess_rules::{MovePlace, Rules, Undo, play, unplay};
@@ -76,8 +76,8 @@ fn is_key_or_noted<R: Rules, const N: usize>(
 }
 
 /// Plays the next key after `place`, and moves `place` to it. Notes the first moves before it that may be
-/// tries among `candidates`, which keep some. Returns the key, what takes it back, and its refutations: none; after the last
-/// one `None`, with the board unchanged.
+/// tries among `candidates`, which keep some. Returns the key, what takes it back, and its refutations: none;
+/// after the last one `None`, with the board unchanged.
 #[tactic(auto, using(crate::proofs::Candidates::key_refuting, crate::proofs::Loops::filtering, chess_rules::proofs::LegalMoves::may_be_made))]
 fn play_next_key<R: Rules, const N: usize>(
     task: &Task,
@@ -138,8 +138,8 @@ fn is_try_as_kept<R: Rules, const N: usize>(
 }
 
 /// Plays the next try after `place` with at most `task.most` refutations, and moves `place` to it. Tests only
-/// the `candidates` that aren't kept at `index`. Returns the try, what takes it back, and a set that holds its refutations; after the last
-/// one `None`, with the board unchanged.
+/// the `candidates` that aren't kept at `index`. Returns the try, what takes it back, and a set that holds its
+/// refutations; after the last one `None`, with the board unchanged.
 #[tactic(auto, using(crate::proofs::Loops::filtering, chess_rules::proofs::LegalMoves::may_be_made))]
 fn play_next_try<R: Rules, const N: usize>(
     task: &Task,

@@ -5,7 +5,7 @@ ghost use Rattle.pop_battle.specs.ties.Frames.{CameBy, Frame as Level};
 ghost use Rattle.pop_walk.specs.Events.{play_start};
 ghost use Rattle.pop_tries.specs.Shown.{try_event_of};
 ghost use Rattle.pop_tries.specs.declared.first_moves.Group.TheVariants.{Keys, Tries};
-ghost use Rattle.pop_tries.specs.declared.stage.TriesStage.TheVariants.{Beginning, Faced, FirstMove};
+ghost use Rattle.pop_tries.specs.declared.progress.TriesProgress.TheVariants.{Beginning, Faced, FirstMove};
 ghost use Rattle.pop_tries.specs.ties.Candidates.{candidates_of, none_kept};
 ghost use Rattle.pop_tries.specs.ties.Contests.{IsContest};
 ghost use Rattle.pop_tries.specs.ties.Searching.{contest_of, ending_of, event_of_first, first_event as bare_first, is_stopped, left_of, Emits, Goes, HoldsAt, HoldTries, IsBare, IsTask, MayStep};
@@ -14,18 +14,18 @@ use crate::desk::Desk;
 use crate::first_moves::{Group, play_next};
 use crate::kept_tries::Candidates;
 use crate::move_set::MoveSet;
+use crate::progress::{First, Firsts, Step, Task, TriesProgress};
 use crate::refuting::Refuting;
 use crate::shown::shown;
-use crate::stage::{First, Firsts, Step, Task, TriesStage};
 use chess_core::{Board, Move};
 use chess_rules::{MovePlace, Rules, Undo, play, unplay};
 use pop_events::{Shown, TryEvent};
 
-/// Returns the stage before the keys.
-pub(crate) fn beginning_of_keys() -> TriesStage
+/// Returns the progress of a search before the keys.
+pub(crate) fn beginning_of_keys() -> TriesProgress
     ensures { result ≡ Beginning Keys (candidates_of None) }
 {
-    TriesStage::Beginning {
+    TriesProgress::Beginning {
         group: Group::Keys,
         candidates: Candidates::of(None),
     }
@@ -53,11 +53,11 @@ pub(crate) fn begin_group<R: Rules, const N: usize>(
     requires task { IsTask task.now }
     requires holds { HoldsAt R.rule task.now (Beginning group candidates)
         desk.now.frames.items desk.now.board }
-    ensures { Goes R.rule task.now (Beginning group candidates) desk.now result.stage desk.now
+    ensures { Goes R.rule task.now (Beginning group candidates) desk.now result.progress desk.now
         result.event }
 {
     Step {
-        stage: TriesStage::FirstMove {
+        progress: TriesProgress::FirstMove {
             firsts: Firsts {
                 group,
                 place: MovePlace::start(),
@@ -100,15 +100,15 @@ fn end_group<R: Rules>(task: &Task, group: Group, count: u32, candidates: Candid
     requires candidates { HoldTries R.rule task.now candidates }
     ensures goes { (items : List Level) (p : Position)
         → IsBare (play_start task.now.problem) items p
-        → HoldsAt R.rule task.now result.stage items p }
+        → HoldsAt R.rule task.now result.progress items p }
     ensures emits { (items : List Level)
         → Emits R.rule task.now (ending_of R.rule task.now group count)
-        (left_of R.rule task.now result.stage items) result.event }
+        (left_of R.rule task.now result.progress items) result.event }
     ensures event { is_some result.event ≡ true }
 {
     match group {
         Group::Keys => Step {
-            stage: TriesStage::Beginning {
+            progress: TriesProgress::Beginning {
                 group: Group::Tries { most: task.most },
                 candidates,
             },
@@ -118,7 +118,7 @@ fn end_group<R: Rules>(task: &Task, group: Group, count: u32, candidates: Candid
             }),
         },
         Group::Tries { .. } => Step {
-            stage: TriesStage::Over,
+            progress: TriesProgress::Over,
             event: Some(TryEvent::TryTotal { count }),
         },
     }
@@ -132,7 +132,8 @@ pub(crate) fn find_first<R: Rules, const N: usize>(
     desk: &mut Desk<R, N>,
 ) -> Step
     requires { MayStep R.rule task.now (FirstMove firsts) desk.old N }
-    ensures { Goes R.rule task.now (FirstMove firsts) desk.old result.stage desk.new result.event }
+    ensures { Goes R.rule task.now (FirstMove firsts) desk.old result.progress desk.new
+        result.event }
 {
     let group = firsts.group;
     if is_stopped(task, group, firsts.count) {
@@ -159,7 +160,7 @@ fn begin_first<R: Rules>(
 ) -> Step
     requires came { CameBy R.rule by undo board.old (play_start task.now.problem) }
     ensures unchanged { board.new ≡ board.old }
-    ensures stage { result.stage ≡ Faced
+    ensures progress { result.progress ≡ Faced
         (record { firsts = firsts; by = by; undo = undo; threat = None; refuting = refuting }) }
     ensures event { result.event ≡ Some (try_event_of R.rule task.now.problem
         (bare_first firsts.group by)) }
@@ -176,7 +177,7 @@ fn begin_first<R: Rules>(
         refuting,
     };
     Step {
-        stage: TriesStage::Faced { first },
+        progress: TriesProgress::Faced { first },
         event: Some(event),
     }
 }

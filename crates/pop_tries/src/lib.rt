@@ -1,11 +1,25 @@
-//! The search for the keys and tries of a battle problem, and for what stands below each: the threats or
-//! zugzwang, the defences, and the refutations of a try. `TriesSearch` returns its events one by one; the other
-//! modules are the tests and walks that it calls, and the laws of the definitions. No call allocates.
+//! The search for the keys and tries of a battle problem, and for what follows each: the threats or
+//! zugzwang, the defences, and the refutations of a try.
 //!
 //! ```rust
-//! // A statement that the prover has checked; the call does nothing.
-//! pop_tries::refutations_are_defences();
+//! use chess_rules::Orthodox;
+//! use pop_input::{Item, MOST_FRAMES, Reader};
+//! use pop_text::TrialSource;
+//! use pop_tries::{TriesSearch, TryEvent};
+//!
+//! let text = b"BeginProblem Pieces White Kg6 Ra1 Black Kg8 Stipulation #1 EndProblem";
+//! let mut source = TrialSource::new(text, 4096, None);
+//! if let Item::Sound(problem, _) = Reader::new().next_problem(&mut source) {
+//!     // For the proof: a problem that was read has fewer half-moves than `MOST_FRAMES`.
+//!     problem.show_sound();
+//!     let mut search = TriesSearch::<Orthodox, MOST_FRAMES>::new(&problem, 1);
+//!     assert!(rt; matches!(search.next(), Some(TryEvent::Keys)));
+//!     assert!(rt; matches!(search.next(), Some(TryEvent::Key(_))));
+//! }
 //! ```
+//!
+//! The interface is `TriesSearch`, which returns its events one by one, and the laws of the definitions: functions
+//! that do nothing, each with a law as its contract. No call allocates.
 #![tactic(auto)]
 
 mod below;
@@ -16,14 +30,14 @@ mod few_places;
 mod first_moves;
 mod group;
 mod kept_tries;
-pub mod laws;
+mod laws;
 mod move_set;
+mod progress;
 mod refuting;
 mod replies;
 mod search;
 mod set_play;
 mod shown;
-mod stage;
 mod threats;
 
 pub use laws::{
@@ -31,5 +45,5 @@ pub use laws::{
     no_event_comes_twice, refutations_are_defences, stalemate_refutes,
 };
 pub use pop_events::TryEvent;
+pub use progress::MOST_REFUTATIONS;
 pub use search::TriesSearch;
-pub use stage::MOST_REFUTATIONS;

@@ -14,7 +14,7 @@ pub struct Refuting {
 }
 
 impl Refuting {
-    /// Returns that no reply refutes.
+    /// Returns what is known of a first move that no reply is known to refute.
     pub fn none() -> Refuting
         ensures { result ≡ nothing_refuting }
     {

@@ -14,8 +14,8 @@ ghost use Rattle.pop_tries.specs.ties.FirstMoves.{AreRefuting, IsRefutedAt, give
 use crate::contest::Contest;
 use crate::desk::Desk;
 use crate::move_set::MoveSet;
+use crate::progress::MOST_REFUTATIONS;
 use crate::refuting::Refuting;
-use crate::stage::MOST_REFUTATIONS;
 use chess_core::{Board, Kind, Man, Move};
 use chess_rules::{MovePlace, Rules, has_legal_move, in_check, is_stalemate, play, unplay};
 use pop_battle::chess::{next_move, reaches_goal};

@@ -9,8 +9,8 @@ use crate::below_first::{
 };
 use crate::desk::Desk;
 use crate::group::{begin_group, beginning_of_keys, find_first};
+use crate::progress::{Course, MOST_REFUTATIONS, Step, Task, TriesProgress};
 use crate::set_play::{begin_set_play, walk_set_play};
-use crate::stage::{Course, MOST_REFUTATIONS, Step, Task, TriesStage};
 use chess_core::Board;
 use chess_rules::Rules;
 use pop_events::{Event, TryEvent};
@@ -51,8 +51,8 @@ impl<R: Rules, const N: usize> TriesSearch<R, N> {
     ghost use Rattle.pop_tries.specs.Events.{try_events};
     ghost use Rattle.pop_tries.specs.Shown.{try_event_of};
 
-    /// Returns a search before its first event. Tries have at most `most` refutations, 0 to `MOST_REFUTATIONS`. `N` must be
-    /// more than the half-moves of the play.
+    /// Returns a search before its first event. Tries have at most `most` refutations, 0 to `MOST_REFUTATIONS`. `N`
+    /// must be more than the half-moves of the play.
     pub fn new(problem: &Problem, most: u32) -> Self
         requires room { half_moves problem.now.stipulation < N }
         requires few { most ≤ MOST_REFUTATIONS }
@@ -81,13 +81,13 @@ impl<R: Rules, const N: usize> TriesSearch<R, N> {
                 self.course = Course::Ended;
                 Some(TryEvent::NoTries)
             }
-            Course::InBattle { battle, stage } => {
+            Course::InBattle { battle, progress } => {
                 let task = Task {
                     problem: self.problem,
                     battle: *battle,
                     most: self.most,
                 };
-                next_event::<R, N>(&task, stage, &mut self.desk)
+                next_event::<R, N>(&task, progress, &mut self.desk)
             }
             Course::Ended => None,
         }
@@ -101,73 +101,76 @@ fn first_course(problem: &Problem) -> Course
     let Some(battle) = problem.stipulation().form.battle() else {
         return Course::NoTries;
     };
-    let stage = if problem.set_play() {
-        TriesStage::SetPlay
+    let progress = if problem.set_play() {
+        TriesProgress::SetPlay
     } else {
         beginning_of_keys()
     };
-    Course::InBattle { battle, stage }
+    Course::InBattle { battle, progress }
 }
 
 /// Returns whether nothing is left to return.
-fn is_over(stage: TriesStage) -> bool
-    ensures { result ≡ is_over stage }
+fn is_over(progress: TriesProgress) -> bool
+    ensures { result ≡ is_over progress }
 {
-    matches!(stage, TriesStage::Over)
+    matches!(progress, TriesProgress::Over)
 }
 
-/// Takes the step that the stage is due for, which may emit an event.
+/// Takes the next step, which may emit an event.
 #[tactic(auto, unfolding(crate::specs::ties::Searching::HoldsAt, crate::specs::ties::Searching::left_of, crate::specs::ties::Searching::rank))]
 fn next_step<R: Rules, const N: usize>(
     task: &Task,
-    stage: TriesStage,
+    progress: TriesProgress,
     desk: &mut Desk<R, N>,
 ) -> Step
-    requires may_step { MayStep R.rule task.now stage desk.old N }
-    requires open { is_over stage ≡ false }
-    ensures { Goes R.rule task.now stage desk.old result.stage desk.new result.event }
+    requires may_step { MayStep R.rule task.now progress desk.old N }
+    requires open { is_over progress ≡ false }
+    ensures { Goes R.rule task.now progress desk.old result.progress desk.new result.event }
 {
-    match stage {
-        TriesStage::SetPlay => begin_set_play(task, desk),
-        TriesStage::NotPossible => Step {
-            stage: beginning_of_keys(),
+    match progress {
+        TriesProgress::SetPlay => begin_set_play(task, desk),
+        TriesProgress::NotPossible => Step {
+            progress: beginning_of_keys(),
             event: Some(TryEvent::Set(Event::Impossible)),
         },
-        TriesStage::Within { stage } => walk_set_play(task, stage, desk),
-        TriesStage::Beginning { group, candidates } => {
+        TriesProgress::InSetPlay { progress } => walk_set_play(task, progress, desk),
+        TriesProgress::Beginning { group, candidates } => {
             begin_group(task, group, candidates, desk)
         }
-        TriesStage::FirstMove { firsts } => find_first(task, firsts, desk),
-        TriesStage::Faced { first } => face(task, first, desk),
-        TriesStage::Threats { first, crossed } => { walk_threats(task, first, crossed, desk) }
-        TriesStage::Reply { first, place } => { find_reply(task, first, place, desk) }
-        TriesStage::BelowReply { first, reply } => { walk_reply(task, first, reply, desk) }
-        TriesStage::But { first } => begin_refutations(task, first, desk),
-        TriesStage::Refutation { first, place } => { find_refutation(task, first, place, desk) }
-        TriesStage::Stalemate { first } => end_stalemate(task, first, desk),
-        TriesStage::Over => Step { stage, event: None },
+        TriesProgress::FirstMove { firsts } => find_first(task, firsts, desk),
+        TriesProgress::Faced { first } => face(task, first, desk),
+        TriesProgress::Threats { first, crossed } => { walk_threats(task, first, crossed, desk) }
+        TriesProgress::Reply { first, place } => { find_reply(task, first, place, desk) }
+        TriesProgress::BelowReply { first, reply } => { walk_reply(task, first, reply, desk) }
+        TriesProgress::But { first } => begin_refutations(task, first, desk),
+        TriesProgress::Refutation { first, place } => { find_refutation(task, first, place, desk) }
+        TriesProgress::Stalemate { first } => end_stalemate(task, first, desk),
+        TriesProgress::Over => Step {
+            progress,
+            event: None,
+        },
     }
 }
 
-/// Takes steps up to the next event, and updates the stage. Returns `None` after the last event.
+/// Takes steps up to the next event, and updates the progress. Returns `None` after the last event.
 fn next_event<R: Rules, const N: usize>(
     task: &Task,
-    stage: &mut TriesStage,
+    progress: &mut TriesProgress,
     desk: &mut Desk<R, N>,
 ) -> Option<TryEvent>
-    requires { MayStep R.rule task.now stage.old desk.old N }
-    ensures holds { HoldsAt R.rule task.now stage.new desk.new.frames.items desk.new.board }
+    requires { MayStep R.rule task.now progress.old desk.old N }
+    ensures holds { HoldsAt R.rule task.now progress.new desk.new.frames.items desk.new.board }
     ensures next { MatchOption result
-        ((left_of R.rule task.now stage.old desk.old.frames.items ≡ [])
-        × (left_of R.rule task.now stage.new desk.new.frames.items ≡ []))
+        ((left_of R.rule task.now progress.old desk.old.frames.items ≡ [])
+        × (left_of R.rule task.now progress.new desk.new.frames.items ≡ []))
         (λ shown. (bare : BareTryEvent)
-        × (left_of R.rule task.now stage.old desk.old.frames.items
-        ≡ bare ∷ left_of R.rule task.now stage.new desk.new.frames.items)
+        × (left_of R.rule task.now progress.old desk.old.frames.items
+        ≡ bare ∷ left_of R.rule task.now progress.new desk.new.frames.items)
         × (shown ≡ try_event_of R.rule task.now.problem bare)) }
 {
-    while !is_over(*stage) {
-        let step = next_step::<R, N>(task, *stage, desk);
-        *stage = step.stage;
+    while !is_over(*progress) {
+        let step = next_step::<R, N>(task, *progress, desk);
+        *progress = step.progress;
         if step.event.is_some() {
             return step.event;
         }

@@ -1,28 +1,28 @@
 //! The steps of a search for tries in set play.
 ghost use Rattle.pop_events.specs.declared.event.Phase.TheVariants.{Set};
-ghost use Rattle.pop_tries.specs.declared.stage.TriesStage.TheVariants.{SetPlay, Within};
+ghost use Rattle.pop_tries.specs.declared.progress.TriesProgress.TheVariants.{InSetPlay, SetPlay};
 ghost use Rattle.pop_tries.specs.ties.Searching.{Goes, HoldsAt, MayStep};
 
 use crate::desk::Desk;
 use crate::group::beginning_of_keys;
-use crate::stage::{Step, Task, TriesStage};
+use crate::progress::{Step, Task, TriesProgress};
 use chess_rules::{MovePlace, Rules};
 use pop_battle::frame::Frame;
 use pop_events::{Event, Phase, TryEvent};
 use pop_walk::mode::Mode;
-use pop_walk::phases::{Scope, Stage, Walk, advance, phase_half_moves, set_up};
+use pop_walk::phases::{Progress, Scope, Walk, advance, phase_half_moves, set_up};
 
 /// Begins set play, or finds that it isn't possible.
 #[tactic(auto, unfolding(crate::specs::ties::Searching::HoldsAt, crate::specs::ties::Searching::rank))]
 pub(crate) fn begin_set_play<R: Rules, const N: usize>(task: &Task, desk: &mut Desk<R, N>) -> Step
     requires { MayStep R.rule task.now SetPlay desk.old N }
-    ensures { Goes R.rule task.now SetPlay desk.old result.stage desk.new result.event }
+    ensures { Goes R.rule task.now SetPlay desk.old result.progress desk.new result.event }
 {
     let phase = Phase::Set;
     let event = Some(TryEvent::Set(Event::Phase(phase)));
     if !set_up::<R>(&task.problem, phase, &mut desk.board) {
         return Step {
-            stage: TriesStage::NotPossible,
+            progress: TriesProgress::NotPossible,
             event,
         };
     }
@@ -40,8 +40,8 @@ pub(crate) fn begin_set_play<R: Rules, const N: usize>(task: &Task, desk: &mut D
         scope: Scope::Part,
     };
     Step {
-        stage: TriesStage::Within {
-            stage: Stage::Within { walk, count: 0 },
+        progress: TriesProgress::InSetPlay {
+            progress: Progress::Within { walk, count: 0 },
         },
         event,
     }
@@ -51,17 +51,18 @@ pub(crate) fn begin_set_play<R: Rules, const N: usize>(task: &Task, desk: &mut D
 #[tactic(auto, unfolding(crate::specs::ties::Searching::HoldsAt, crate::specs::ties::Searching::rank))]
 pub(crate) fn walk_set_play<R: Rules, const N: usize>(
     task: &Task,
-    stage: Stage,
+    progress: Progress,
     desk: &mut Desk<R, N>,
 ) -> Step
-    requires { MayStep R.rule task.now (Within stage) desk.old N }
-    ensures { Goes R.rule task.now (Within stage) desk.old result.stage desk.new result.event }
+    requires { MayStep R.rule task.now (InSetPlay progress) desk.old N }
+    ensures { Goes R.rule task.now (InSetPlay progress) desk.old result.progress desk.new
+        result.event }
 {
-    let mut stage = stage;
+    let mut progress = progress;
     let mut event = None;
     advance::<R, N, true>(
         &task.problem,
-        &mut stage,
+        &mut progress,
         &mut desk.board,
         &mut desk.frames,
         &mut desk.search_state,
@@ -69,11 +70,11 @@ pub(crate) fn walk_set_play<R: Rules, const N: usize>(
     );
     match event {
         Some(event) => Step {
-            stage: TriesStage::Within { stage },
+            progress: TriesProgress::InSetPlay { progress },
             event: Some(TryEvent::Set(event)),
         },
         None => Step {
-            stage: beginning_of_keys(),
+            progress: beginning_of_keys(),
             event: None,
         },
     }

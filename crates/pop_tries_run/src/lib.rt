@@ -18,8 +18,8 @@
 //! allocates.
 #![tactic(auto)]
 
-pub mod tries_writer;
-pub mod whole_run;
+mod tries_writer;
+mod whole_run;
 
 pub use pop_tries::MOST_REFUTATIONS;
 pub use tries_writer::TriesWriter;

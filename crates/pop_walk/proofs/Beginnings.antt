@@ -1,6 +1,6 @@
 -- How the search of a phase after a beginning of moves begins.
 unfoldable use Rattle.pop_walk.specs.ties.Walk.{AreEnds}
-use Rattle.pop_walk.proofs.Words.{AreCursors, Bool, Frame, Game, HoldsAtStage, First, IsLinked, IsRoomy, IsWalking, List, Move, Part, Phase, Mode, Posed, Position, RuleSet, Stage, Within, [], after_well_formed, ap, append-nil, arith, eqb, events_along, false, false≢true, game_of, inl, inr, is_emitted, is_followed, is_for_mate, is_help, is_legal, is_mate, may_be_made, left_of, legal_moves, length, map, nat_tests, opened_frame, path, phase_half_moves, phase_paths, phase_start, mode_of, position, position_after, refl, reverse, rules, seeks_last, shown_paths, sym, to_come, to_open, true, undo_of, walk_count, walk_length, walk_of, ℕ, ◌++◌, ◌+◌, ◌-◌, ◌<◌, ◌∙◌, ◌∷◌, ◌≡◌, ◌≤◌, met_after}
+use Rattle.pop_walk.proofs.Words.{AreCursors, Bool, Frame, Game, HoldsAtProgress, First, IsLinked, IsRoomy, IsWalking, List, Move, Part, Phase, Mode, Posed, Position, RuleSet, Progress, Within, [], after_well_formed, ap, append-nil, arith, eqb, events_along, false, false≢true, game_of, inl, inr, is_emitted, is_followed, is_for_mate, is_help, is_legal, is_mate, may_be_made, left_of, legal_moves, length, map, nat_tests, opened_frame, path, phase_half_moves, phase_paths, phase_start, mode_of, position, position_after, refl, reverse, rules, seeks_last, shown_paths, sym, to_come, to_open, true, undo_of, walk_count, walk_length, walk_of, ℕ, ◌++◌, ◌+◌, ◌-◌, ◌<◌, ◌∙◌, ◌∷◌, ◌≡◌, ◌≤◌, met_after}
 use Rattle.pop_battle.proofs.Boards.{after_start, for_mate}
 use Rattle.pop_walk.proofs.GoingOn.{cases, ended-reached, follows-help, walk_length-help, walk_length-most}
 use Rattle.pop_walk.proofs.Counting.{at_most_one, counts-help, open-close, walk_count-start}
@@ -36,17 +36,17 @@ unfolding IsLinked IsRoomy AreCursors AreEnds position
 walking-opened rule h p frames board m tried some r lawful room =
     grind (arith, after_well_formed rule board m r.sound (may_be_made rule board m lawful), may_be_made rule board m lawful)
 
--- the stage with which a search after a beginning begins: the path of the beginning is still to be given, or it isn't
-abbrev pub begins_at : Posed → Phase → Bool → Stage
+-- the progress with which a search after a beginning begins: the path of the beginning is still to be given, or it isn't
+abbrev pub begins_at : Posed → Phase → Bool → Progress
 begins_at problem phase true = First (walk_of problem phase Part)
 begins_at problem phase false = Within (walk_of problem phase Part) 0
 
 -- a search after a beginning has begun: these paths are to come
-pub record HasBegun (rule : RuleSet) (problem : Posed) (phase : Phase) (paths : List (List Move)) (walk : ℕ) (stage : Stage) (frames : List Frame)
+pub record HasBegun (rule : RuleSet) (problem : Posed) (phase : Phase) (paths : List (List Move)) (walk : ℕ) (progress : Progress) (frames : List Frame)
     (board : Position) (opened : ℕ) : Type 0 where
-  pub standing : HoldsAtStage rule problem stage frames board
-  pub left : left_of rule problem stage frames ≡ events_along problem phase 0 paths []
-  pub counts : is_help problem.stipulation.form ≡ true → Counts (exactly walk) (untried_at rule problem stage frames) 0 opened
+  pub standing : HoldsAtProgress rule problem progress frames board
+  pub left : left_of rule problem progress frames ≡ events_along problem phase 0 paths []
+  pub counts : is_help problem.stipulation.form ≡ true → Counts (exactly walk) (untried_at rule problem progress frames) 0 opened
 
 module _ (rule : RuleSet) (problem : Posed) (phase : Phase) (n : ℕ) (frames : List Frame) (board : Position)
     (s : IsBeginning rule problem phase n (reverse frames) board) (m : Move) (lawful : is_legal rule board m ≡ true) where
@@ -99,7 +99,7 @@ module _ (rule : RuleSet) (problem : Posed) (phase : Phase) (n : ℕ) (frames : 
 
   -- none of the paths is to come
   begun-none : (opened : ℕ) → come ≡ [] → (is_help problem.stipulation.form ≡ true → opened ≡ tried) → Begun false old board opened
-  unfolding HoldsAtStage left_of
+  unfolding HoldsAtProgress left_of
   begun-none opened none o = record {
     standing = (s.walking, omega arith, refl);
     left = rw (idle-come rule mode p h old s.idle, none) refl;
@@ -154,7 +154,7 @@ module _ (rule : RuleSet) (problem : Posed) (phase : Phase) (n : ℕ) (frames : 
 
   begun-entered : (opened : ℕ) (given : Bool) → given ≡ is_emitted mode.battle game left q → is_followed mode.battle game root left q ≡ true
       → CountsMove rule mode root left q 0 opened → Begun given entered q opened
-  unfolding HoldsAtStage left_of
+  unfolding HoldsAtProgress left_of
   begun-entered opened true g followed c =
       let e : path entered ∷ phase_paths rule problem phase entered ≡ come =
       rw (path-more _ old deep) (sym (come-entered followed ∙ rw (← g) refl)) in

@@ -1,5 +1,5 @@
 -- What a call of `next` returns.
-use Rattle.pop_walk.proofs.Words.{After, Before, Frame, Stage, Total, goes_on, is_none, sym, IsRoomy, IsSound, List, Phase, Play, Posed, Position, RuleSet, Walks, Within, [], append_assoc, arith, cond, drop, eqb, events_from, false, flat_map, half_moves, is_impossible_phase, BareEvent, Event, First, Gives, IsAtPathOf, IsWalking, Move, Whole, begins_solution, event_of, events_after, events_along, path, path_event, phase_count, Walk, walk_of, Bool, ap, ◌<◌, ◌∙◌, beginning_count, is_help, kept_paths, left_of, length, length-reverse, nat_tests, opening, phase_events, phase_half_moves, phase_paths, phase_start, mode_of, refl, reverse, rules, solutions, take, total, true, ℕ, ◌+◌, ◌-◌, ◌||◌, ◌∷◌, ◌≡◌, ◌≤◌, drop-drop}
+use Rattle.pop_walk.proofs.Words.{After, Before, Frame, Progress, Total, goes_on, is_none, sym, IsRoomy, IsSound, List, Phase, Play, Posed, Position, RuleSet, Walks, Within, [], append_assoc, arith, cond, drop, eqb, events_from, false, flat_map, half_moves, is_impossible_phase, BareEvent, Event, First, Gives, IsAtPathOf, IsWalking, Move, Whole, begins_solution, event_of, events_after, events_along, path, path_event, phase_count, Walk, walk_of, Bool, ap, ◌<◌, ◌∙◌, beginning_count, is_help, kept_paths, left_of, length, length-reverse, nat_tests, opening, phase_events, phase_half_moves, phase_paths, phase_start, mode_of, refl, reverse, rules, solutions, take, total, true, ℕ, ◌+◌, ◌-◌, ◌||◌, ◌∷◌, ◌≡◌, ◌≤◌, drop-drop}
 use Rattle.pop_stipulation.specs.declared.stipulation.TheConstants.{MOST_FRAMES}
 use Rattle.pop_walk.proofs.Sound.{in_range}
 use Rattle.pop_walk.proofs.Kept.{beginning_count-next, keep-next}
@@ -35,23 +35,23 @@ pub left-ended : (rule : RuleSet) (problem : Posed) (walk : Walk) (count : ℕ) 
 unfolding left_of
 left-ended rule problem walk count old new board w = search rules
 
--- the stage after a phase has the events after it
-after-is : (rule : RuleSet) (problem : Posed) (b : Bool) (stage : Stage) (frames : List Frame) → stage ≡ cond b (Before Play) After
-    → left_of rule problem stage frames ≡ cond b (events_from rule problem Play) []
+-- the progress after a phase has the events after it
+after-is : (rule : RuleSet) (problem : Posed) (b : Bool) (progress : Progress) (frames : List Frame) → progress ≡ cond b (Before Play) After
+    → left_of rule problem progress frames ≡ cond b (events_from rule problem Play) []
 unfolding left_of
-after-is rule problem true stage frames e = rw e refl
-after-is rule problem false stage frames e = rw e refl
+after-is rule problem true progress frames e = rw e refl
+after-is rule problem false progress frames e = rw e refl
 
 -- the total is given
 pub ended-gives : (rule : RuleSet) (problem : Posed) (walk : Walk) (count : ℕ) (old mid : List Frame) (at : Position)
     → Walks rule (mode_of problem) (is_help problem.stipulation.form) (phase_half_moves problem walk.phase) (phase_start problem walk.phase)
-    (problem.max_solutions - count) old mid at false → (stage : Stage) → stage ≡ cond (goes_on walk) (Before Play) After
+    (problem.max_solutions - count) old mid at false → (progress : Progress) → progress ≡ cond (goes_on walk) (Before Play) After
     → (new : List Frame) (event : Event) → event ≡ Total count (eqb count problem.max_solutions) → (board : Position) (depth : ℕ)
-    → Gives rule problem (left_of rule problem (Within walk count) old) (left_of rule problem stage new) event board depth
-ended-gives rule problem walk count old mid at w stage next new event e board depth = record {
+    → Gives rule problem (left_of rule problem (Within walk count) old) (left_of rule problem progress new) event board depth
+ended-gives rule problem walk count old mid at w progress next new event e board depth = record {
   bare = total count (eqb count problem.max_solutions);
   left = left-ended rule problem walk count old mid at w ∙ ap (λ xs. total count (eqb count problem.max_solutions) ∷ xs)
-      (sym (after-is rule problem (goes_on walk) stage new next));
+      (sym (after-is rule problem (goes_on walk) progress new next));
   event_is = e;
   stands = tt;
 }

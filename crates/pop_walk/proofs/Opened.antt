@@ -1,5 +1,5 @@
--- How many positions a search counts, from stage to stage.
-use Rattle.pop_walk.proofs.Words.{BareEvent, Bool, NotPossible, Set, Before, ◌++◌, After, Frame, HasCounted, IsCountedUpTo, IsSound, List, Phase, Play, Posed, RuleSet, Stage, First, Whole, Within, goes_on, left_of, refl, phase_events, [], arith, cond, drop, eqb, false, first_phase, is_help, is_walked_once, Walk, walk_of, and_parts, is_impossible_phase, is_stop, is_unstopped, min, not, phase_half_moves, phase_start, phase_walk, mode_of, position, rules, suc, to_open, total, true, zero, ℕ, ◌&&◌, ◌+◌, ◌-◌, ◌<◌, ◌^◌, ◌∷◌, ◌≡◌, ◌≤◌, ◌⊎◌}
+-- How many positions a search counts, from one progress to the next.
+use Rattle.pop_walk.proofs.Words.{BareEvent, Bool, NotPossible, Set, Before, ◌++◌, After, Frame, HasCounted, IsCountedUpTo, IsSound, List, Phase, Play, Posed, RuleSet, Progress, First, Whole, Within, goes_on, left_of, refl, phase_events, [], arith, cond, drop, eqb, false, first_phase, is_help, is_walked_once, Walk, walk_of, and_parts, is_impossible_phase, is_stop, is_unstopped, min, not, phase_half_moves, phase_start, phase_walk, mode_of, position, rules, suc, to_open, total, true, zero, ℕ, ◌&&◌, ◌+◌, ◌-◌, ◌<◌, ◌^◌, ◌∷◌, ◌≡◌, ◌≤◌, ◌⊎◌}
 use Rattle.pop_walk.specs.ties.Counts.{Counts, CountsOn, CountsWalk, IsOpened, are_whites, fewest_left, fewest_tried, is_walked_once_by, least_if, searches_all, none_untried, untried, untried_at, untried_from}
 use Rattle.pop_walk.specs.Walks.{is_never_stopped, whole_walk}
 use Rattle.pop_battle.proofs.Boards.{after_start}
@@ -13,7 +13,7 @@ some-event (x ∷ xs) y ys e = cc
 
 module _ (rule : RuleSet) (problem : Posed) where
   -- what a call counts, where something has to be tried only if `full`
-  abbrev CountsIf : Bool → (old new : Stage) → (frames last : List Frame) → (before after : ℕ) → Type 0
+  abbrev CountsIf : Bool → (old new : Progress) → (frames last : List Frame) → (before after : ℕ) → Type 0
   CountsIf full old new frames last before after =
       Counts (least_if full (untried_at rule problem old frames)) (untried_at rule problem new last) before after
 
@@ -40,20 +40,21 @@ module _ (rule : RuleSet) (problem : Posed) where
     counts-given next full last kept = rw kept (search rules)
 
     -- what it counts that ends the phase
-    pub counts-ended : (stage : Stage) (last : List Frame) (left : List BareEvent) → stage ≡ cond (goes_on walk) (Before Play) After
+    pub counts-ended : (progress : Progress) (last : List Frame) (left : List BareEvent) → progress ≡ cond (goes_on walk) (Before Play) After
         → count ≤ problem.max_solutions → (new ≡ []) ⊎ (problem.max_solutions - count ≡ 0)
-        → CountsIf (more && is_unstopped (total count (eqb count problem.max_solutions) ∷ left)) (Within walk count) stage old last before after
+        → CountsIf (more && is_unstopped (total count (eqb count problem.max_solutions) ∷ left)) (Within walk count) progress old last before after
     unfolding untried_at least_if untried to_open fewest_left
-    counts-ended stage last left at most over = search rules
+    counts-ended progress last left at most over = search rules
 
   -- nothing is tried between the path of a beginning and the paths after it
-  pub counts-first : (walk : Walk) (stage : Stage) (is : (n : ℕ) × (stage ≡ Within walk n)) (frames : List Frame) (opened : ℕ) (full : Bool)
-      → CountsIf full (First walk) stage frames frames opened opened
+  pub counts-first : (walk : Walk) (progress : Progress) (is : (n : ℕ) × (progress ≡ Within walk n)) (frames : List Frame) (opened : ℕ) (full : Bool)
+      → CountsIf full (First walk) progress frames frames opened opened
   unfolding untried_at least_if
-  counts-first walk stage is frames opened full = rw is.1 (search rules)
+  counts-first walk progress is frames opened full = rw is.1 (search rules)
 
   -- where no event is to come nothing is still to be tried
-  pub none-left : (stage : Stage) (frames : List Frame) → left_of rule problem stage frames ≡ [] → untried_at rule problem stage frames ≡ none_untried
+  pub none-left : (progress : Progress) (frames : List Frame) → left_of rule problem progress frames ≡ []
+      → untried_at rule problem progress frames ≡ none_untried
   unfolding left_of untried_at phase_events
   none-left (Before Set) frames e = absurd cc
   none-left (Before Play) frames e = absurd cc
@@ -63,15 +64,15 @@ module _ (rule : RuleSet) (problem : Posed) where
   none-left After frames e = refl
 
   -- what a count says: at most the walk count, and after the last event all that had to be tried
-  module _ (prunes : Bool) (stage : Stage) (frames : List Frame) (opened : ℕ) (o : IsOpened prunes rule problem stage frames opened) where
+  module _ (prunes : Bool) (progress : Progress) (frames : List Frame) (opened : ℕ) (o : IsOpened prunes rule problem progress frames opened) where
     pub most-opened : is_walked_once problem ≡ true → opened ≤ whole_walk rule problem
     unfolding least_if
     most-opened once = let first : (untried_from rule problem (first_phase problem)).once ≡ true = search rules in omega (arith, o.most first)
 
-    module _ (all : searches_all prunes problem ≡ true) (never : is_never_stopped rule problem ≡ true) (none : left_of rule problem stage frames ≡ []) where
+    module _ (all : searches_all prunes problem ≡ true) (never : is_never_stopped rule problem ≡ true) (none : left_of rule problem progress frames ≡ []) where
       at_the_end : HasCounted 0 opened (untried_from rule problem (first_phase problem)).least
       unfolding least_if
-      at_the_end = let least = rw (all, never, none-left stage frames none) at o.least in omega (arith, least)
+      at_the_end = let least = rw (all, never, none-left progress frames none) at o.least in omega (arith, least)
 
       pub all-opened : opened < 2 ^ 64 → is_help problem.stipulation.form ≡ true → opened ≡ min (whole_walk rule problem) (2 ^ 64 - 1)
       all-opened fits help =
@@ -83,7 +84,7 @@ module _ (rule : RuleSet) (problem : Posed) where
       fewest-opened battle = let least = rw battle at at_the_end in omega (arith, least)
 
   -- a call that walked again from the phase's first position would count what had been counted before twice
-  pub no_second_walk : (old new : Stage) (frames last : List Frame) (before after again : ℕ)
+  pub no_second_walk : (old new : Progress) (frames last : List Frame) (before after again : ℕ)
       → CountsOn false rule problem old new frames last before after → (untried_at rule problem old frames).once ≡ true → 0 < before
       → before + (untried_at rule problem old frames).most - (untried_at rule problem new last).most ≤ again → after ≡ before + again → ⊥
   unfolding least_if
@@ -95,7 +96,8 @@ module _ (rule : RuleSet) (problem : Posed) where
   all-drop (suc k) (x ∷ xs) e = all-drop k xs (and_parts (not (is_stop x)) (is_unstopped xs) e).1
 
   -- the counts hold on after a call
-  pub opened-on : (prunes : Bool) (old new : Stage) (frames last : List Frame) (before after given : ℕ) → IsCountedUpTo rule problem (left_of rule problem old frames) given
+  pub opened-on : (prunes : Bool) (old new : Progress) (frames last : List Frame) (before after given : ℕ)
+      → IsCountedUpTo rule problem (left_of rule problem old frames) given
       → CountsOn prunes rule problem old new frames last before after → IsOpened prunes rule problem old frames before
       → IsOpened prunes rule problem new last after
   unfolding least_if

@@ -34,15 +34,15 @@ pub use Rattle.pop_events.specs.declared.event.Event.{Event}
 pub use Rattle.pop_events.specs.declared.event.Event.TheVariants.{Line, Node, Total}
 pub use Rattle.pop_events.specs.declared.event.Phase.{Phase}
 pub use Rattle.pop_events.specs.declared.event.Phase.TheVariants.{Play, Set}
-pub use Rattle.pop_walk.specs.declared.phases.Stage.{Stage}
+pub use Rattle.pop_walk.specs.declared.phases.Progress.{Progress}
 pub use Rattle.pop_walk.specs.declared.phases.Walk.{Walk}
-pub use Rattle.pop_walk.specs.declared.phases.Stage.TheVariants.{NotPossible, Before, First, After, Within}
+pub use Rattle.pop_walk.specs.declared.phases.Progress.TheVariants.{NotPossible, Before, First, After, Within}
 pub use Rattle.pop_walk.specs.declared.phases.Scope.TheVariants.{Part, Whole}
 pub use Rattle.pop_walk.specs.declared.mode.Mode.{Mode}
 pub use Rattle.pop_battle.specs.ties.Frames.{opened_frame}
 unfoldable pub use Rattle.pop_battle.specs.ties.Frames.{to_open, walk_after}
 pub use Rattle.pop_walk.specs.ties.Phases.{Gives, events_after, events_along, IsCountedUpTo, Walks, begins_solution, phase_paths}
-unfoldable pub use Rattle.pop_walk.specs.ties.Phases.{HoldsAtStage, beginning_count, kept_paths, left_of}
+unfoldable pub use Rattle.pop_walk.specs.ties.Phases.{HoldsAtProgress, beginning_count, kept_paths, left_of}
 pub use Rattle.pop_walk.specs.ties.Modes.{goes_on, mode_of, walk_of}
 pub use Rattle.pop_walk.specs.ties.Seen.{IsAtPathOf}
 pub use Rattle.pop_walk.specs.Walks.{is_stop, is_unstopped, is_walked_once, phase_walk}

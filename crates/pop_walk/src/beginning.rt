@@ -9,12 +9,12 @@ ghost use Rattle.pop_battle.specs.Walks.{walk_count};
 ghost use Rattle.pop_walk.specs.Events.{phase_half_moves as half_moves_of_phase};
 ghost use Rattle.pop_walk.specs.ties.Beginnings.{IsBeginning, paths_by};
 ghost use Rattle.pop_walk.specs.ties.Counts.{Counts, exactly, untried_at};
-ghost use Rattle.pop_walk.specs.ties.Phases.{events_along, left_of, HoldsAtStage};
+ghost use Rattle.pop_walk.specs.ties.Phases.{events_along, left_of, HoldsAtProgress};
 ghost use Rattle.pop_walk.specs.ties.Walk.{IsMatedAtLast, IsWellFormed, is_for_mate, seeks_last};
 
 use crate::guess::guess_killers;
 use crate::mode::Mode;
-use crate::phases::{Scope, Stage, Walk, phase_half_moves};
+use crate::phases::{Progress, Scope, Walk, phase_half_moves};
 use crate::walk::{ends_with_mate, enter};
 use arrayvec::ArrayVec;
 use chess_core::{Board, Move};
@@ -58,14 +58,15 @@ pub fn begin_after<R: Rules, const N: usize>(
     board: &mut Board,
     frames: &mut ArrayVec<Frame<R>, N>,
     search_state: &mut SearchState,
-) -> Stage
+) -> Progress
     requires sound { IsSound problem.now }
     requires room { half_moves problem.now.stipulation < N }
     requires begun { IsBeginning R.rule problem.now phase (array_vec_len frames.old)
         (reverse frames.old.items) board.old }
     requires legal { is_legal R.rule board.old by ≡ true }
     requires opened { search_state.old.opened ≡ 0 }
-    ensures standing { HoldsAtStage R.rule problem.now result (reverse frames.new.items) board.new }
+    ensures standing { HoldsAtProgress R.rule problem.now result (reverse frames.new.items)
+        board.new }
     ensures left { left_of R.rule problem.now result (reverse frames.new.items)
         ≡ events_along problem.now phase 0 (paths_by R.rule problem.now phase
         (array_vec_len frames.old) (reverse frames.old.items) board.old by) [] }
@@ -81,11 +82,11 @@ pub fn begin_after<R: Rules, const N: usize>(
     let depth = frames.len();
     let left = phase_half_moves(problem, phase) - depth;
     if !may_lead::<R>(mode, left, by, board) {
-        return Stage::Within { walk, count: 0 };
+        return Progress::Within { walk, count: 0 };
     }
     guess_killers::<R>(mode, left, by, board, &mut search_state.killers);
     if enter::<R, N>(mode, left, by, board, frames, search_state) {
-        return Stage::First { walk };
+        return Progress::First { walk };
     }
-    Stage::Within { walk, count: 0 }
+    Progress::Within { walk, count: 0 }
 }

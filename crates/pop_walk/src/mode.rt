@@ -16,7 +16,7 @@ pub struct Mode {
 }
 
 impl Mode {
-    /// Returns the mode of a problem.
+    /// Returns how a problem is walked: its battle and goal, and whether it has the option Variation.
     pub fn of(problem: &Problem) -> Mode
         ensures { result ≡ mode_of problem.now }
     {

@@ -8,10 +8,10 @@ ghost use Rattle.pop_walk.specs.Events.{first_phase, moves_shown, play_start, ph
 ghost use Rattle.pop_walk.specs.ties.Counts.{CountsOn, CountsWalk, tries_all};
 ghost use Rattle.pop_walk.specs.ties.Walk.{IsEnded, IsWalking, path};
 ghost use Rattle.pop_walk.specs.ties.Modes.{goes_on, mode_of, walk_of};
-ghost use Rattle.pop_walk.specs.ties.Phases.{left_of, HoldsAtStage, Walks, Gives};
+ghost use Rattle.pop_walk.specs.ties.Phases.{left_of, HoldsAtProgress, Walks, Gives};
 ghost use Rattle.pop_events.specs.declared.event.Event.TheVariants.{Line, Total};
 ghost use Rattle.pop_events.specs.declared.event.Phase.TheVariants.{Play};
-ghost use Rattle.pop_walk.specs.declared.phases.Stage.TheVariants.{Before, First, Within, After};
+ghost use Rattle.pop_walk.specs.declared.phases.Progress.TheVariants.{Before, First, Within, After};
 
 use crate::mode::Mode;
 use crate::showing::{last_shown, line};
@@ -25,7 +25,7 @@ use pop_battle::search_state::SearchState;
 use pop_events::{Event, Phase};
 use pop_input::{MOST_FRAMES, Problem};
 
-/// What a search covers.
+/// How much of a problem a search walks.
 #[derive(Clone, Copy)]
 pub enum Scope {
     /// A whole problem: the play follows set play.
@@ -34,7 +34,7 @@ pub enum Scope {
     Part,
 }
 
-/// How a phase is walked: the phase, its mode, its number of half-moves, and what the search covers.
+/// How a phase is walked: the phase, its mode, its number of half-moves, and how much of the problem follows.
 #[derive(Clone, Copy)]
 pub struct Walk {
     pub phase: Phase,
@@ -45,7 +45,7 @@ pub struct Walk {
 
 /// How far a search has come in its phases, set play and the play.
 #[derive(Clone, Copy)]
-pub enum Stage {
+pub enum Progress {
     /// Before this phase.
     Before { phase: Phase },
     /// After the `Phase` event of a set play that isn't possible.
@@ -93,13 +93,13 @@ impl Walk {
         }
     }
 
-    /// Returns the stage after the last event of the phase.
-    fn stage_after(self) -> Stage
+    /// Returns the progress of the search after the last event of the phase.
+    fn progress_after(self) -> Progress
         ensures { result ≡ (if goes_on self then Before Play else After) }
     {
         match self.scope {
-            Scope::Whole if self.phase == Phase::Set => Stage::Before { phase: Phase::Play },
-            _ => Stage::After,
+            Scope::Whole if self.phase == Phase::Set => Progress::Before { phase: Phase::Play },
+            _ => Progress::After,
         }
     }
 }
@@ -235,20 +235,21 @@ pub fn set_up<R: Rules>(problem: &Problem, phase: Phase, board: &mut Board) -> b
     false
 }
 
-/// Begins a phase with one frame, or finds that the phase is impossible. Returns the next stage.
-#[tactic(auto, unfolding(crate::specs::ties::Phases::HoldsAtStage))]
+/// Begins a phase with one frame, or finds that the phase is impossible. Returns the new progress.
+#[tactic(auto, unfolding(crate::specs::ties::Phases::HoldsAtProgress))]
 fn begin<R: Rules, const N: usize, const PRUNES: bool>(
     problem: &Problem,
     phase: Phase,
     board: &mut Board,
     frames: &mut ArrayVec<Frame<R>, N>,
     search_state: &mut SearchState,
-) -> Stage
+) -> Progress
     requires sound { IsSound problem.now }
     requires room { half_moves problem.now.stipulation < N }
-    requires standing { HoldsAtStage R.rule problem.now (Before phase) (reverse frames.old.items)
+    requires standing { HoldsAtProgress R.rule problem.now (Before phase) (reverse frames.old.items)
         board.old }
-    ensures standing { HoldsAtStage R.rule problem.now result (reverse frames.new.items) board.new }
+    ensures standing { HoldsAtProgress R.rule problem.now result (reverse frames.new.items)
+        board.new }
     ensures left { left_of R.rule problem.now (Before phase) (reverse frames.old.items)
         ≡ opening phase ∷ left_of R.rule problem.now result (reverse frames.new.items) }
     ensures counts { CountsOn PRUNES R.rule problem.now (Before phase) result
@@ -256,7 +257,7 @@ fn begin<R: Rules, const N: usize, const PRUNES: bool>(
         search_state.new.opened }
 {
     if !set_up::<R>(problem, phase, board) {
-        return Stage::NotPossible;
+        return Progress::NotPossible;
     }
     let walk = Walk::of(problem, phase, Scope::Whole);
     let left = walk.half_moves;
@@ -267,21 +268,21 @@ fn begin<R: Rules, const N: usize, const PRUNES: bool>(
         ..Frame::default()
     });
     search_state.opened = opened_with(search_state.opened, left);
-    Stage::Within { walk, count: 0 }
+    Progress::Within { walk, count: 0 }
 }
 
-/// Ends a phase: closes its frames and puts the first position of the play on the board. Returns the next
-/// stage.
+/// Ends a phase: closes its frames and puts the first position of the play on the board. Returns the new
+/// progress.
 fn end<R: Rules, const N: usize>(
     problem: &Problem,
     walk: Walk,
     board: &mut Board,
     frames: &mut ArrayVec<Frame<R>, N>,
-) -> Stage
+) -> Progress
     requires sound { IsSound problem.now }
     requires walking { (h : ℕ) × IsWalking R.rule h (phase_start problem.now walk.phase)
         (reverse frames.old.items) board.old }
-    ensures stage { result ≡ (if goes_on walk then Before Play else After) }
+    ensures progress { result ≡ (if goes_on walk then Before Play else After) }
     ensures none { frames.new.items ≡ [] }
     ensures board { board.new ≡ play_start problem.now }
 {
@@ -289,7 +290,7 @@ fn end<R: Rules, const N: usize>(
     if walk.phase == Phase::Set {
         turn_back(board, &problem.diagram());
     }
-    walk.stage_after()
+    walk.progress_after()
 }
 
 /// Returns how many solutions of a phase may still begin after `count`.
@@ -327,36 +328,36 @@ fn count_with(problem: &Problem, depth: usize, count: u32) -> u32
     }
 }
 
-/// Returns the event of the path of a phase's beginning, with the stage after it.
-#[tactic(auto, unfolding(crate::specs::ties::Phases::HoldsAtStage, crate::specs::ties::Phases::left_of))]
+/// Returns the event of the path of a phase's beginning, with the progress after it.
+#[tactic(auto, unfolding(crate::specs::ties::Phases::HoldsAtProgress, crate::specs::ties::Phases::left_of))]
 fn first_event<R: Rules>(
     problem: &Problem,
     walk: Walk,
     frames: &[Frame<R>],
     board: &mut Board,
-) -> (Stage, Event)
+) -> (Progress, Event)
     requires sound { IsSound problem.now }
-    requires standing { HoldsAtStage R.rule problem.now (First walk) (reverse frames.now)
+    requires standing { HoldsAtProgress R.rule problem.now (First walk) (reverse frames.now)
         board.old }
-    ensures standing { HoldsAtStage R.rule problem.now result.0 (reverse frames.now) board.new }
+    ensures standing { HoldsAtProgress R.rule problem.now result.0 (reverse frames.now) board.new }
     ensures gives { Gives R.rule problem.now
         (left_of R.rule problem.now (First walk) (reverse frames.now))
         (left_of R.rule problem.now result.0 (reverse frames.now))
         result.1 board.new (length frames.now) }
-    ensures stage { (count : ℕ) × (result.0 ≡ Within walk count) }
+    ensures progress { (count : ℕ) × (result.0 ≡ Within walk count) }
 {
     let count = count_with(problem, frames.len(), 0);
     let event = event_at::<R>(problem, walk, frames, board);
-    (Stage::Within { walk, count }, event)
+    (Progress::Within { walk, count }, event)
 }
 
-/// Writes the next event of a search to `event`, or `None` after the last, and updates the stage. A search
+/// Writes the next event of a search to `event`, or `None` after the last, and updates the progress. A search
 /// that prunes (`PRUNES`) doesn't walk below positions of help play from which the goal is out of reach.
 /// Takes `event` by reference, since each caller would copy a returned event.
-#[tactic(auto, unfolding(crate::specs::ties::Phases::HoldsAtStage, crate::specs::ties::Phases::left_of))]
+#[tactic(auto, unfolding(crate::specs::ties::Phases::HoldsAtProgress, crate::specs::ties::Phases::left_of))]
 pub fn advance<R: Rules, const N: usize, const PRUNES: bool>(
     problem: &Problem,
-    stage: &mut Stage,
+    progress: &mut Progress,
     board: &mut Board,
     frames: &mut ArrayVec<Frame<R>, N>,
     search_state: &mut SearchState,
@@ -364,46 +365,46 @@ pub fn advance<R: Rules, const N: usize, const PRUNES: bool>(
 )
     requires sound { IsSound problem.now }
     requires room { half_moves problem.now.stipulation < N }
-    requires standing { HoldsAtStage R.rule problem.now stage.old (reverse frames.old.items)
+    requires standing { HoldsAtProgress R.rule problem.now progress.old (reverse frames.old.items)
         board.old }
-    ensures standing { HoldsAtStage R.rule problem.now stage.new (reverse frames.new.items)
+    ensures standing { HoldsAtProgress R.rule problem.now progress.new (reverse frames.new.items)
         board.new }
     ensures gives { MatchOption event.new
-        ((left_of R.rule problem.now stage.old (reverse frames.old.items) ≡ [])
+        ((left_of R.rule problem.now progress.old (reverse frames.old.items) ≡ [])
         × (board.new ≡ play_start problem.now)
-        × (left_of R.rule problem.now stage.new (reverse frames.new.items) ≡ []))
+        × (left_of R.rule problem.now progress.new (reverse frames.new.items) ≡ []))
         (λ event. Gives R.rule problem.now
-        (left_of R.rule problem.now stage.old (reverse frames.old.items))
-        (left_of R.rule problem.now stage.new (reverse frames.new.items))
+        (left_of R.rule problem.now progress.old (reverse frames.old.items))
+        (left_of R.rule problem.now progress.new (reverse frames.new.items))
         event board.new (array_vec_len frames.new)) }
-    ensures counts { CountsOn PRUNES R.rule problem.now stage.old stage.new
+    ensures counts { CountsOn PRUNES R.rule problem.now progress.old progress.new
         (reverse frames.old.items) (reverse frames.new.items) search_state.old.opened
         search_state.new.opened }
 {
-    match *stage {
-        Stage::Before { phase } => {
-            *stage = begin::<R, N, PRUNES>(problem, phase, board, frames, search_state);
+    match *progress {
+        Progress::Before { phase } => {
+            *progress = begin::<R, N, PRUNES>(problem, phase, board, frames, search_state);
             *event = Some(Event::Phase(phase));
         }
-        Stage::NotPossible => {
-            *stage = Stage::Before { phase: Phase::Play };
+        Progress::NotPossible => {
+            *progress = Progress::Before { phase: Phase::Play };
             *event = Some(Event::Impossible);
         }
-        Stage::First { walk } => {
+        Progress::First { walk } => {
             let (next, first) = first_event::<R>(problem, walk, frames.as_slice(), board);
-            *stage = next;
+            *progress = next;
             *event = Some(first);
         }
-        Stage::Within { walk, count } => {
+        Progress::Within { walk, count } => {
             if walk_on::<R, N, PRUNES>(problem, walk, count, board, frames, search_state) {
                 let count = count_with(problem, frames.len(), count);
-                *stage = Stage::Within { walk, count };
+                *progress = Progress::Within { walk, count };
                 *event = Some(event_at::<R>(problem, walk, frames.as_slice(), board));
                 return;
             }
-            *stage = end::<R, N>(problem, walk, board, frames);
+            *progress = end::<R, N>(problem, walk, board, frames);
             *event = Some(total(problem, count));
         }
-        Stage::After => *event = None,
+        Progress::After => *event = None,
     }
 }

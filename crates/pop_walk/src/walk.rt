@@ -185,7 +185,7 @@ fn is_emitted<R: Rules>(mode: Mode, left: usize, board: &mut Board) -> bool
     requires well_formed { IsWellFormed board.old }
     requires mated { IsMatedAtLast R.rule mode left board.old }
     ensures unchanged { board.new ≡ board.old }
-    ensures given { result ≡ is_emitted mode.battle (chess mode.goal R.rule) left board.old }
+    ensures emitted { result ≡ is_emitted mode.battle (chess mode.goal R.rule) left board.old }
 {
     match mode.battle {
         Some(_) => true,
@@ -310,13 +310,13 @@ fn next_risky<R: Rules>(
     if cursor.is_none() {
         *cursor = Some(LegalCursor::<R>::of(board));
     }
-    let Some(moves) = cursor else {
+    let Some(cursor) = cursor else {
         return None;
     };
-    moves.go_to(*place);
-    let kept = moves.next_kept(threats, board);
+    cursor.go_to(*place);
+    let kept = cursor.next_kept(threats, board);
     *opened = opened.saturating_add(u64::from(kept.skipped));
-    *place = moves.place();
+    *place = cursor.place();
     kept.found
 }
 

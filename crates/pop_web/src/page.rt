@@ -1,5 +1,5 @@
-//! The calls of the page: a text's report, with or without tries, the lists of its parts and faults, the solutions of one
-//! part.
+//! The calls of the page: a text's report, with or without tries, the lists of its parts and faults, the solutions of
+//! one part.
 ghost use Rattle.std.specs.Prelude.{◌≡◌, ◌<◌, ◌≤◌, length, take};
 ghost use Rattle.pop_web.specs.ties.FaultsShown.{ShowsFaults};
 ghost use Rattle.pop_web.specs.Page.{Lists, Shows, ShowsItems, ShowsParts, ShowsTries, depth_of as depth_by, status_number, outcome_number, part_of as part_by, phase_of as phase_by, room, too_small};
@@ -100,8 +100,8 @@ pub extern "C" fn pops_list(
     status_number(ending)
 }
 
-/// Writes the list of the input's faults to the front of `output`, one line per faulty item with the place where it is
-/// found, and its length in bytes to `written`.
+/// Writes the list of the input's faults to the front of `output`, one line per faulty item with the span of the fault,
+/// the bytes where it is found, and the list's length in bytes to `written`.
 ///
 /// The results are those that `pops_report` returns; the bytes are those that `pops-part --faults` writes.
 #[unsafe(no_mangle)]

@@ -100,8 +100,8 @@ fn report<R: Read + Drop, W: Write + Drop, E: Write + Drop>(
 
 // Writes what is wanted of the source to the sink, and returns how the run ends.
 //
-// Writes exactly the list of the input, of its parts or faults, or the text of the parts, or a beginning of it if the sink fails. At most one
-// source call and one sink call fail.
+// Writes exactly the list of the input, of its parts or faults, or the text of the parts, or a beginning of it if the
+// sink fails. At most one source call and one sink call fail.
 fn answer<S: Source, W: Sink>(wanted: &Wanted, source: &mut S, sink: &mut W) -> Ending
     requires deep { HasDepth wanted.now }
     requires source { S.failures source.old < greatest_count }

@@ -4,7 +4,7 @@
 //! pops-tries --refutations 2 mate.pop
 //! ```
 //!
-//! `program` is the whole program except its streams; `main` passes it the words and the standard streams.
+//! `main` passes the words of the command line and the standard streams to `program`, which does all the rest.
 #![tactic(auto)]
 
 pub mod program;

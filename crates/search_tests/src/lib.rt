@@ -5,8 +5,8 @@
 //! cd crates/search_tests && rt test
 //! ```
 //!
-//! `tests` holds the tests. `row` runs one row, `watch` checks the counts of one search, `plain` and `counts` are a plain
-//! solver and plain counts for comparison, and `made` generates problems.
+//! `tests` holds the tests. `row` runs one row, `watch` checks the counts of one search, `plain` and `counts` are a
+//! plain solver and plain counts for comparison, and `made` generates problems.
 #![tactic(auto)]
 
 #[cfg(test)]

@@ -8,7 +8,7 @@ use Rattle.chess_attacks.specs.RuleSet.{RuleSet}
 use Rattle.pop_input.specs.Posed.{Posed}
 use Rattle.pop_stipulation.specs.Stipulations.{is_help}
 use Rattle.pop_walk.specs.Events.{BareEvent, Path, phase_half_moves, phase_start}
-use Rattle.pop_walk.specs.declared.phases.Stage.{Stage}
+use Rattle.pop_walk.specs.declared.phases.Progress.{Progress}
 use Rattle.pop_walk.specs.ties.Counts.{Counts, exactly, least_if, untried_at}
 use Rattle.pop_battle.specs.ties.Frames.{Frame}
 use Rattle.pop_battle.specs.Game.{path_end}
@@ -44,11 +44,11 @@ part_walk rule problem phase front =
     (path_end (position_after rule) (phase_start problem phase) front)
 
 -- in help play at most the positions of the part's walk that aren't still to be tried have counted
-abbrev pub IsPartOpened : RuleSet → Posed → Phase → Path → Stage → List Frame → ℕ → Type 0
-IsPartOpened rule problem phase front stage frames opened =
+abbrev pub IsPartOpened : RuleSet → Posed → Phase → Path → Progress → List Frame → ℕ → Type 0
+IsPartOpened rule problem phase front progress frames opened =
     is_help problem.stipulation.form ≡ true
     → Counts (least_if false (exactly (part_walk rule problem phase front)))
-    (untried_at rule problem stage frames) 0 opened
+    (untried_at rule problem progress frames) 0 opened
 
 -- each of the moves, played from p on, is legal
 unfoldable pub are_legal : RuleSet → Position → Path → Bool

@@ -22,7 +22,8 @@ use std::alloc::Global;
 ///
 /// # Errors
 ///
-/// `Usage` if clap refuses the words or they have none of the forms. `Memory` if an allocation fails, whatever the words.
+/// `Usage` if clap refuses the words or they have none of the forms. `Memory` if an allocation fails, whatever the
+/// words.
 pub fn settings(alloc: Global, words: &[&str]) -> Result<Settings, ArgFault>
     ensures chosen { IfOk result (IsSettings (map (λ s. s.now) words.now)) }
     ensures memory { IfErr result (IsMemoryIfTaken (map (λ s. s.now) words.now)) }

@@ -17,7 +17,7 @@ use Rattle.pop_events.specs.declared.event.Phase.TheVariants.{Set}
 use Rattle.pop_input.specs.Posed.{IsSound, Posed}
 use Rattle.pop_walk.specs.Events.{game_of, impossible, phase_events, play_start}
 use Rattle.pop_walk.specs.Tree.{node}
-use Rattle.pop_walk.specs.ties.Phases.{HoldsAtStage, left_of as set_play_left}
+use Rattle.pop_walk.specs.ties.Phases.{HoldsAtProgress, left_of as set_play_left}
 use Rattle.pop_walk.specs.ties.Modes.{mode_of}
 use Rattle.pop_walk.specs.ties.Walk.{IsWalking, to_come}
 use Rattle.pop_tries.specs.Tries.{Below, below_reply, refutation, reply, shown_refutations, stalemate, threatened}
@@ -34,14 +34,14 @@ use Rattle.pop_tries.specs.declared.first_moves.Group.{Group}
 use Rattle.pop_tries.specs.declared.first_moves.Group.TheVariants.{Keys, Tries}
 use Rattle.pop_events.specs.declared.try_event.TryEvent.{TryEvent}
 use Rattle.pop_events.specs.declared.try_event.TryEvent.TheVariants.{Check, Key, Try, Zugzwang}
-use Rattle.pop_tries.specs.declared.stage.Course.{Course}
-use Rattle.pop_tries.specs.declared.stage.Course.TheVariants.{NoTries, InBattle, Ended}
-use Rattle.pop_tries.specs.declared.stage.First.{First}
-use Rattle.pop_tries.specs.declared.stage.Firsts.{Firsts}
-use Rattle.pop_tries.specs.declared.stage.Task.{Task}
-use Rattle.pop_tries.specs.declared.stage.TheConstants.{MOST_REFUTATIONS}
-use Rattle.pop_tries.specs.declared.stage.TriesStage.{TriesStage}
-use Rattle.pop_tries.specs.declared.stage.TriesStage.TheVariants.{SetPlay, NotPossible, Within, Beginning, FirstMove, Faced, Threats, Reply, BelowReply, But, Refutation, Stalemate, Over}
+use Rattle.pop_tries.specs.declared.progress.Course.{Course}
+use Rattle.pop_tries.specs.declared.progress.Course.TheVariants.{NoTries, InBattle, Ended}
+use Rattle.pop_tries.specs.declared.progress.First.{First}
+use Rattle.pop_tries.specs.declared.progress.Firsts.{Firsts}
+use Rattle.pop_tries.specs.declared.progress.Task.{Task}
+use Rattle.pop_tries.specs.declared.progress.TheConstants.{MOST_REFUTATIONS}
+use Rattle.pop_tries.specs.declared.progress.TriesProgress.{TriesProgress}
+use Rattle.pop_tries.specs.declared.progress.TriesProgress.TheVariants.{SetPlay, NotPossible, InSetPlay, Beginning, FirstMove, Faced, Threats, Reply, BelowReply, But, Refutation, Stalemate, Over}
 
 -- what contracts see of a search for tries: the problem, the most refutations of a try, and the events
 -- still to come
@@ -87,10 +87,10 @@ abbrev pub first_course : Posed → Course
 first_course problem = course_by (battle_of problem.stipulation.form) problem.set_play
 
 -- nothing is left to return
-abbrev pub is_over : TriesStage → Bool
+abbrev pub is_over : TriesProgress → Bool
 is_over SetPlay = false
 is_over NotPossible = false
-is_over (Within stage) = false
+is_over (InSetPlay progress) = false
 is_over (Beginning group candidates) = false
 is_over (FirstMove firsts) = false
 is_over (Faced first) = false
@@ -206,12 +206,12 @@ module _ (rule : RuleSet) (task : Task) where
   refutations_after q place = filter (refutes rule (contest_of task) q) (moves_after rule q place)
 
   -- the events still to come
-  unfoldable pub left_of : TriesStage → List Frame → List BareTryEvent
+  unfoldable pub left_of : TriesProgress → List Frame → List BareTryEvent
   left_of SetPlay items =
       map set_event (phase_events rule task.problem Set) ++ whole_group Keys
   left_of NotPossible items = set_event impossible ∷ whole_group Keys
-  left_of (Within stage) items =
-      map set_event (set_play_left rule task.problem stage (reverse items)) ++ whole_group Keys
+  left_of (InSetPlay progress) items =
+      map set_event (set_play_left rule task.problem progress (reverse items)) ++ whole_group Keys
   left_of (Beginning group candidates) items = whole_group group
   left_of (FirstMove firsts) items = group_left firsts
   left_of (Faced first) items = below_and_after first (shown_after first.by)
@@ -271,13 +271,13 @@ module _ (rule : RuleSet) (task : Task) where
     pub walking : IsOnWalk p items board
 
   -- what holds of board and frames
-  unfoldable pub HoldsAt : TriesStage → List Frame → Position → Type 0
+  unfoldable pub HoldsAt : TriesProgress → List Frame → Position → Type 0
   HoldsAt SetPlay items board =
       IsContest (contest_of task) × IsBare (play_start task.problem) items board
   HoldsAt NotPossible items board =
       IsContest (contest_of task) × IsBare (play_start task.problem) items board
-  HoldsAt (Within stage) items board = IsContest (contest_of task)
-      × HoldsAtStage rule task.problem stage (reverse items) board
+  HoldsAt (InSetPlay progress) items board = IsContest (contest_of task)
+      × HoldsAtProgress rule task.problem progress (reverse items) board
   HoldsAt (Beginning group candidates) items board = IsContest (contest_of task)
       × IsBare (play_start task.problem) items board × IsAsked group task.most
       × HoldCandidates group candidates 0
@@ -314,17 +314,17 @@ pub record IsTask (task : Task) : Type 0 where
   pub few : task.most ≤ MOST_REFUTATIONS
 
 -- what a step of a search for tries, or more of them, begins with: `most` frames leave room for the play
-pub record MayStepWith (rule : RuleSet) (task : Task) (stage : TriesStage) (items : List Frame)
+pub record MayStepWith (rule : RuleSet) (task : Task) (progress : TriesProgress) (items : List Frame)
     (board : Position) (most : ℕ) : Type 0 where
   pub is_task : IsTask task
   pub room : half_moves task.problem.stipulation < most
-  pub holds : HoldsAt rule task stage items board
+  pub holds : HoldsAt rule task progress items board
 
 -- how many more steps may return no event
-unfoldable pub rank : TriesStage → ℕ
+unfoldable pub rank : TriesProgress → ℕ
 rank SetPlay = 0
 rank NotPossible = 0
-rank (Within stage) = 1
+rank (InSetPlay progress) = 1
 rank (Beginning group candidates) = 0
 rank (FirstMove firsts) = 0
 rank (Faced first) = 2
@@ -337,20 +337,20 @@ rank (Stalemate first) = 0
 rank Over = 0
 
 -- what a step of a search for tries leaves
-pub record GoesWith (rule : RuleSet) (task : Task) (old : TriesStage) (was : List Frame)
-    (new : TriesStage) (items : List Frame) (board : Position) (event : Option TryEvent) : Type 0
+pub record GoesWith (rule : RuleSet) (task : Task) (old : TriesProgress) (was : List Frame)
+    (new : TriesProgress) (items : List Frame) (board : Position) (event : Option TryEvent) : Type 0
   where
     pub holds : HoldsAt rule task new items board
     pub emits : Emits rule task (left_of rule task old was) (left_of rule task new items) event
     pub falls : event ≡ None → rank new < rank old
 
 -- a step, or more of them, may begin at a desk
-abbrev pub MayStep : {A : Type 0} {n : ℕ} → RuleSet → Task → TriesStage → Desk A n → ℕ → Type 0
-MayStep rule task stage desk most = MayStepWith rule task stage desk.frames.items desk.board most
+abbrev pub MayStep : {A : Type 0} {n : ℕ} → RuleSet → Task → TriesProgress → Desk A n → ℕ → Type 0
+MayStep rule task progress desk most = MayStepWith rule task progress desk.frames.items desk.board most
 
 -- a step that began at one desk leaves another
-abbrev pub Goes : {A : Type 0} {n : ℕ} → RuleSet → Task → (old : TriesStage) → Desk A n
-    → (new : TriesStage) → Desk A n → Option TryEvent → Type 0
+abbrev pub Goes : {A : Type 0} {n : ℕ} → RuleSet → Task → (old : TriesProgress) → Desk A n
+    → (new : TriesProgress) → Desk A n → Option TryEvent → Type 0
 Goes rule task old was new desk event =
     GoesWith rule task old was.frames.items new desk.frames.items desk.board event
 
@@ -362,14 +362,14 @@ task_of problem most battle = record { problem = problem; battle = battle; most 
 abbrev pub left_on : RuleSet → Posed → (most : ℕ) → Course → List Frame
     → List BareTryEvent
 left_on rule problem most NoTries items = no_tries ∷ []
-left_on rule problem most (InBattle battle stage) items =
-    left_of rule (task_of problem most battle) stage items
+left_on rule problem most (InBattle battle progress) items =
+    left_of rule (task_of problem most battle) progress items
 left_on rule problem most Ended items = []
 
 -- what holds of a search on its course: in a battle it may step, with `room` frames
 abbrev pub IsOnCourse : RuleSet → Posed → (most : ℕ) → Course → List Frame
     → Position → (room : ℕ) → Type 0
 IsOnCourse rule problem most NoTries items board room = Unit {0}
-IsOnCourse rule problem most (InBattle battle stage) items board room =
-    MayStepWith rule (task_of problem most battle) stage items board room
+IsOnCourse rule problem most (InBattle battle progress) items board room =
+    MayStepWith rule (task_of problem most battle) progress items board room
 IsOnCourse rule problem most Ended items board room = Unit {0}

@@ -20,8 +20,8 @@ use Rattle.pop_events.specs.declared.event.Phase.{Phase}
 use Rattle.pop_events.specs.declared.event.Phase.TheVariants.{Play}
 use Rattle.pop_walk.specs.Events.{first_phase, is_impossible_phase, is_set, phase_half_moves, phase_start}
 use Rattle.pop_walk.specs.Walks.{is_never_stopped, is_unstopped, phase_walk, sum_from}
-use Rattle.pop_walk.specs.declared.phases.Stage.{Stage}
-use Rattle.pop_walk.specs.declared.phases.Stage.TheVariants.{Before, NotPossible, First, Within, After}
+use Rattle.pop_walk.specs.declared.phases.Progress.{Progress}
+use Rattle.pop_walk.specs.declared.phases.Progress.TheVariants.{Before, NotPossible, First, Within, After}
 use Rattle.pop_walk.specs.declared.phases.Walk.{Walk}
 use Rattle.pop_walk.specs.declared.mode.Mode.{Mode}
 use Rattle.pop_walk.specs.ties.Phases.{left_of}
@@ -156,8 +156,8 @@ untried_within rule problem walk frames =
     (phase_start problem walk.phase) frames)
     (if goes_on walk then untried_from rule problem Play else none_untried)
 
--- what is still to be tried from a stage on
-unfoldable pub untried_at : RuleSet → Posed → Stage → List Frame → Untried
+-- what a search still has to try
+unfoldable pub untried_at : RuleSet → Posed → Progress → List Frame → Untried
 untried_at rule problem (Before phase) frames = untried_from rule problem phase
 untried_at rule problem NotPossible frames = untried_from rule problem Play
 untried_at rule problem (First walk) frames = untried_within rule problem walk frames
@@ -170,15 +170,15 @@ searches_all prunes problem = tries_all prunes (battle_of problem.stipulation.fo
 
 -- what a call counts; nothing has to be tried if an event still to come says that the limit stops a phase,
 -- or in help play if the search prunes
-abbrev pub CountsOn : Bool → RuleSet → Posed → (old new : Stage) → (frames last : List Frame)
+abbrev pub CountsOn : Bool → RuleSet → Posed → (old new : Progress) → (frames last : List Frame)
     → (before after : ℕ) → Type 0
 CountsOn prunes rule problem old new frames last before after =
     Counts (least_if (searches_all prunes problem && is_unstopped (left_of rule problem old frames))
     (untried_at rule problem old frames)) (untried_at rule problem new last) before after
 
 -- the count so far
-abbrev pub IsOpened : Bool → RuleSet → Posed → Stage → List Frame → ℕ → Type 0
-IsOpened prunes rule problem stage frames opened =
+abbrev pub IsOpened : Bool → RuleSet → Posed → Progress → List Frame → ℕ → Type 0
+IsOpened prunes rule problem progress frames opened =
     Counts (least_if (searches_all prunes problem && is_never_stopped rule problem)
     (untried_from rule problem (first_phase problem)))
-    (untried_at rule problem stage frames) 0 opened
+    (untried_at rule problem progress frames) 0 opened

@@ -11,8 +11,8 @@ use Rattle.pop_walk.specs.ties.Seen.{IsAtPathOf}
 use Rattle.pop_events.specs.declared.event.Event.{Event}
 use Rattle.pop_events.specs.declared.event.Phase.{Phase}
 use Rattle.pop_events.specs.declared.event.Phase.TheVariants.{Play}
-use Rattle.pop_walk.specs.declared.phases.Stage.{Stage}
-use Rattle.pop_walk.specs.declared.phases.Stage.TheVariants.{Before, NotPossible, First, Within, After}
+use Rattle.pop_walk.specs.declared.phases.Progress.{Progress}
+use Rattle.pop_walk.specs.declared.phases.Progress.TheVariants.{Before, NotPossible, First, Within, After}
 use Rattle.pop_walk.specs.declared.phases.Walk.{Walk}
 use Rattle.pop_walk.specs.declared.mode.Mode.{Mode}
 use Rattle.pop_walk.specs.ties.Modes.{goes_on, mode_of, walk_of}
@@ -58,7 +58,7 @@ abbrev pub events_after : RuleSet → Posed → Walk → List BareEvent
 events_after rule problem walk = if goes_on walk then events_from rule problem Play else []
 
 -- the events still to come
-unfoldable pub left_of : RuleSet → Posed → Stage → List Frame → List BareEvent
+unfoldable pub left_of : RuleSet → Posed → Progress → List Frame → List BareEvent
 left_of rule problem (Before phase) frames = events_from rule problem phase
 left_of rule problem NotPossible frames = impossible ∷ events_from rule problem Play
 left_of rule problem (First walk) frames =
@@ -69,20 +69,21 @@ left_of rule problem (Within walk count) frames =
     (events_after rule problem walk)
 left_of rule problem After frames = []
 
--- what holds of board and frames at a stage
-unfoldable pub HoldsAtStage : RuleSet → Posed → Stage → List Frame → Position → Type 0
-HoldsAtStage rule problem (Before phase) frames board = (frames ≡ []) × (board ≡ play_start problem)
-HoldsAtStage rule problem NotPossible frames board = (frames ≡ []) × (board ≡ play_start problem)
-HoldsAtStage rule problem (First walk) frames board =
+-- what holds of board and frames when a search has come this far
+unfoldable pub HoldsAtProgress : RuleSet → Posed → Progress → List Frame → Position → Type 0
+HoldsAtProgress rule problem (Before phase) frames board =
+    (frames ≡ []) × (board ≡ play_start problem)
+HoldsAtProgress rule problem NotPossible frames board = (frames ≡ []) × (board ≡ play_start problem)
+HoldsAtProgress rule problem (First walk) frames board =
     IsWalking rule (phase_half_moves problem walk.phase) (phase_start problem walk.phase) frames
     board
     × (walk ≡ walk_of problem walk.phase walk.scope) × (2 ≤ length frames)
     × IsEnded rule (mode_of problem) frames board
-HoldsAtStage rule problem (Within walk count) frames board =
+HoldsAtProgress rule problem (Within walk count) frames board =
     IsWalking rule (phase_half_moves problem walk.phase) (phase_start problem walk.phase) frames
     board
     × (count ≤ problem.max_solutions) × (walk ≡ walk_of problem walk.phase walk.scope)
-HoldsAtStage rule problem After frames board = (frames ≡ []) × (board ≡ play_start problem)
+HoldsAtProgress rule problem After frames board = (frames ≡ []) × (board ≡ play_start problem)
 
 -- what the walk to the next path of a phase leaves, if at most `limit` solutions may still begin;
 -- `given`: a next path exists and is emitted

@@ -3,10 +3,10 @@ use Rattle.pop_parts.specs.ties.Beginnings.{beginnings_to_come}
 use Rattle.pop_parts.proofs.beginnings.count_to_come.Goals as goal
 
 pub loop-board-preserved-then-is_some : goal.loop-board-preserved-then-is_some
-loop-board-preserved-then-is_some g c = let x = c.seek.ensures.attacker_to_move _ _ c.loop-board.invariant.seeking in search (rules, x)
+loop-board-preserved-then-is_some g c = let x = c.seek.ensures.seeks _ _ c.loop-board.invariant.seeking in search (rules, x)
 
 pub loop-board-preserved : goal.loop-board-preserved
-loop-board-preserved g c = let x = c.seek.ensures.attacker_to_move _ _ c.loop-board.invariant.seeking in search (rules, x)
+loop-board-preserved g c = let x = c.seek.ensures.seeks _ _ c.loop-board.invariant.seeking in search (rules, x)
 
 pub returns : goal.returns
 unfolding beginnings_to_come

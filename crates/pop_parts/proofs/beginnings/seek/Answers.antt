@@ -14,17 +14,17 @@ step_back-requires g c = seeking.back-calls_source g.R.Rules.rule c.requires.see
 
 pub returns-in_default-next_move : goal.returns-in_default-next_move
 returns-in_default-next_move g c = record {
-  attacker_to_move = λ h p s.
+  seeks = λ h p s.
       let place : c.top.inside.place ≡ c.in-Some.top.place = ap (λ (f : Frame). f.place) c.top.view_is in
-      seeking.attacker_to_move-closed g.R.Rules.rule h c.args.depth p _ _ _ c.in-Some.ensures.items _ s _ _ _ c.next_move.ensures.unchanged
+      seeking.seeks-closed g.R.Rules.rule h c.args.depth p _ _ _ c.in-Some.ensures.items _ s _ _ _ c.next_move.ensures.unchanged
       c.len-below.ensures.value (rw place at c.in_default-next_move.ensures.next) c.step_back.ensures.lowest c.step_back.ensures.before;
 }
 
 pub returns-then-len-depth : goal.returns-then-len-depth
 returns-then-len-depth g c = record {
-  attacker_to_move = λ h p s.
+  seeks = λ h p s.
       let taken = rw (← c.top.view_is) at c.in-Some.ensures.items in
-      seeking.attacker_to_move-found g.R.Rules.rule h c.args.depth p _ _ _ taken _ s _ _ _ _ _ c.next_move.ensures.unchanged c.next_move.ensures.within
+      seeking.seeks-found g.R.Rules.rule h c.args.depth p _ _ _ taken _ s _ _ _ _ _ c.next_move.ensures.unchanged c.next_move.ensures.within
       c.in-Some-next_move.ensures.next c.push.ensures.items (search (rules, c.len.ensures.value));
 }
 
@@ -33,9 +33,9 @@ play-undo-requires-clause-pseudo g c = search (rules, may_be_made, c.next_move.e
 
 pub returns : goal.returns
 returns g c = record {
-  attacker_to_move = λ h p s.
+  seeks = λ h p s.
       let taken = rw (← c.top.view_is) at c.in-Some.ensures.items in
-      seeking.attacker_to_move-deeper g.R.Rules.rule h c.args.depth p _ _ _ taken _ s _ _ _ _ _ c.next_move.ensures.unchanged c.next_move.ensures.within
+      seeking.seeks-deeper g.R.Rules.rule h c.args.depth p _ _ _ taken _ s _ _ _ _ _ c.next_move.ensures.unchanged c.next_move.ensures.within
       c.in-Some-next_move.ensures.next c.push.ensures.items _ _ _ (search (rules, c.len.ensures.value)) c.play-undo.ensures.undo
       c.play-undo.ensures.after (rw c.idle.ensures at c.push-2.ensures.items);
 }

@@ -12,5 +12,5 @@ returns g c =
     let task = c.args.task.now in
     let first = c.args.first in
     let back = c.end_first.ensures.back (play_start task.problem) (rw h.1.board_at h.2.came) in
-    rw c.end_first.ensures.stage (with_event rule task _ _ _ _ _ (h.0, record { board_at = back; none = h.1.none }, h.2.placed) _
+    rw c.end_first.ensures.progress (with_event rule task _ _ _ _ _ (h.0, record { board_at = back; none = h.1.none }, h.2.placed) _
     (below first.by stalemate) (steps.stalemate_over rule task h.0 first _ _) refl)

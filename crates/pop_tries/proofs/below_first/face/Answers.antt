@@ -6,8 +6,8 @@ use Rattle.pop_tries.proofs.StepsBelow as steps
 use Rattle.pop_tries.proofs.GoesBelow as goes
 use Rattle.std.specs.Prelude.{is_some}
 use Rattle.pop_tries.proofs.Contests.{has_reply}
-use Rattle.pop_tries.specs.declared.stage.TriesStage.TheVariants.{Faced, Reply}
-use Rattle.pop_tries.specs.declared.stage.First.{First}
+use Rattle.pop_tries.specs.declared.progress.TriesProgress.TheVariants.{Faced, Reply}
+use Rattle.pop_tries.specs.declared.progress.First.{First}
 use Rattle.pop_tries.proofs.below_first.face.Goals as goal
 
 pub returns-then-not-has_legal_move : goal.returns-then-not-has_legal_move

@@ -16,7 +16,7 @@ returns-in_default g c =
     let bare = still_bare c.next_refutation-found.ensures.rest h.1 in
     let next = rw (c.contest.ensures, h.1.board_at) at c.in_default.ensures.next in
     let back = c.end_first.ensures.back (play_start task.problem) (rw bare.board_at h.2.came) in
-    rw c.end_first.ensures.stage (without_event rule task _ _ _ _ _ (h.0, record { board_at = back; none = bare.none }, h.2.placed)
+    rw c.end_first.ensures.progress (without_event rule task _ _ _ _ _ (h.0, record { board_at = back; none = bare.none }, h.2.placed)
     (steps.refutations_over rule task h.0 first c.args.place _ _ next) (omega arith))
 
 pub returns : goal.returns

@@ -2,8 +2,8 @@ use Rattle.pop_tries.proofs.Words.{play_start, refl, sym, ◌∙◌}
 unfoldable use Rattle.pop_tries.specs.ties.Searching.{HoldsAt}
 use Rattle.pop_tries.specs.ties.Searching.{beginning_of, contest_of}
 use Rattle.pop_tries.proofs.Candidates.{notes}
-use Rattle.pop_tries.specs.declared.stage.Firsts.{Firsts}
-use Rattle.pop_tries.specs.declared.stage.TriesStage.TheVariants.{FirstMove}
+use Rattle.pop_tries.specs.declared.progress.Firsts.{Firsts}
+use Rattle.pop_tries.specs.declared.progress.TriesProgress.TheVariants.{FirstMove}
 use Rattle.pop_tries.proofs.Goings as goes
 use Rattle.pop_tries.proofs.Steps as steps
 use Rattle.pop_tries.proofs.group.begin_group.Goals as goal

@@ -42,7 +42,7 @@ returns g c =
     let next = rw h.1.board_at at c.in-Some.ensures.next in
     let noted = rw h.1.board_at at c.in-Some.ensures.noted in
     let open_yet = sym c.is_stopped.ensures ∙ c.if-is_stopped.false in
-    rw (c.begin_first.ensures.stage, c.begin_first.ensures.event, c.counted.ensures, c.play_next-found.ensures.group, c.play_next-found.ensures.count)
+    rw (c.begin_first.ensures.progress, c.begin_first.ensures.event, c.counted.ensures, c.play_next-found.ensures.group, c.play_next-found.ensures.count)
     (goes.with_event rule task _ _ _ _ _
     (goes.first_holds rule task h.0 c.requires.is_task firsts h.2 _ _ _ _ _ next.0 open_yet noted next.3 next.2 next.4 _ _ (c.play_next-found.ensures.frames ∙ h.1.none)
     (c.begin_first.ensures.unchanged ∙ next.1))

@@ -9,5 +9,5 @@ returns-then-is_some-clause-next g c =
 
 pub returns-clause-next : goal.returns-clause-next
 returns-clause-next g c =
-    let none = over_empty g.R.Rules.rule c.args.task.now c.loop-desk.stage c.loop-desk.desk.frames.items (sym c.is_over.ensures ∙ c.loop-desk-test.false) in
+    let none = over_empty g.R.Rules.rule c.args.task.now c.loop-desk.progress c.loop-desk.desk.frames.items (sym c.is_over.ensures ∙ c.loop-desk-test.false) in
     (c.loop-desk.invariant.1 ∙ none, none)

@@ -1,6 +1,6 @@
 use Rattle.pop_tries.proofs.Words.{Set, arith, false, refl, rules, set_event, true, ◌≡◌}
 use Rattle.pop_walk.specs.Events.{is_impossible_phase, opening, phase_start, play_start}
-unfoldable use Rattle.pop_walk.specs.ties.Phases.{HoldsAtStage}
+unfoldable use Rattle.pop_walk.specs.ties.Phases.{HoldsAtProgress}
 unfoldable use Rattle.pop_tries.specs.ties.Searching.{HoldsAt}
 use Rattle.pop_tries.proofs.Goings.{with_event}
 use Rattle.pop_tries.proofs.SetPlay.{left_barred, left_begun, paths_begin, walk_begins}
@@ -15,7 +15,7 @@ returns-then-not-set_up g c =
     _ (set_event (opening Set)) (left_barred g.R.Rules.rule c.args.task.now _ _ barred) refl
 
 pub returns : goal.returns
-unfolding HoldsAt HoldsAtStage
+unfolding HoldsAt HoldsAtProgress
 returns g c =
     let possible : is_impossible_phase g.R.Rules.rule c.args.task.now.problem Set ≡ false =
     grind (arith, c.set_up.ensures.possible, c.if-not-set_up.false) in

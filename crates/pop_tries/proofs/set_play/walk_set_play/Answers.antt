@@ -21,5 +21,5 @@ returns-in-None g c =
     let none = none_after g.R.Rules.rule c.args.task.now.problem _ _ _ c.advance.ensures.standing gives.2 in
     rw c.beginning_of_keys.ensures (without_event g.R.Rules.rule c.args.task.now _ _ _ _ _
     (c.requires.holds.0, record { board_at = gives.1; none = none_reversed _ none }, tt, unknown_keys g.R.Rules.rule (contest_of c.args.task.now) c.args.task.now.most (play_start c.args.task.now.problem) _ refl)
-    (search (rules, left_ends g.R.Rules.rule c.args.task.now c.args.stage c.args.desk.now.frames.items c.advance.new.frames.items gives.0))
+    (search (rules, left_ends g.R.Rules.rule c.args.task.now c.args.progress c.args.desk.now.frames.items c.advance.new.frames.items gives.0))
     (omega arith))

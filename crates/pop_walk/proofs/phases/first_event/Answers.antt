@@ -1,9 +1,9 @@
-use Rattle.pop_walk.proofs.Words.{HoldsAtStage, arith, length, length-reverse, refl, ◌≤◌}
+use Rattle.pop_walk.proofs.Words.{HoldsAtProgress, arith, length, length-reverse, refl, ◌≤◌}
 use Rattle.pop_walk.proofs.Events as events
 use Rattle.pop_walk.proofs.phases.first_event.Goals as goal
 
 pub event_at-event-requires : goal.event_at-event-requires
-unfolding HoldsAtStage
+unfolding HoldsAtProgress
 event_at-event-requires g c =
     let s = c.requires.standing in
     let mode = events.mode-is c.args.problem.now c.args.walk s.1 in
@@ -17,7 +17,7 @@ event_at-event-requires g c =
     }
 
 pub returns : goal.returns
-unfolding HoldsAtStage
+unfolding HoldsAtProgress
 returns g c =
     let s = c.requires.standing in
     let deep : 2 ≤ length c.args.frames.now = omega (arith, length-reverse c.args.frames.now, s.2) in
@@ -26,5 +26,5 @@ returns g c =
           (s.0, events.first-most c.args.problem.now c.requires.sound _ _ c.count_with-count.ensures, s.1);
       gives = events.first-gives g.R.Rules.rule c.args.problem.now c.args.walk c.args.frames.now _ deep s.0 c.requires.sound _
           c.count_with-count.ensures _ c.event_at-event.ensures.unchanged _ c.event_at-event.ensures.event;
-      stage = (_, refl);
+      progress = (_, refl);
     }

@@ -14,7 +14,7 @@ use chess_rules::{MovePlace, Undo};
 use pop_events::TryEvent;
 use pop_input::problem::Problem;
 use pop_stipulation::Battle;
-use pop_walk::phases::Stage;
+use pop_walk::phases::Progress;
 
 /// The greatest number of refutations of a try that can be asked for (own).
 pub const MOST_REFUTATIONS: u32 = 200;
@@ -81,7 +81,7 @@ pub struct First {
     pub by: Move,
     pub undo: Undo,
     /// The length of White's threats: the least number of half-moves within which they win. `None` if White
-    /// threatens nothing, or before stage `Faced` has looked for threats.
+    /// threatens nothing, or before the step at `Faced` has looked for threats.
     pub threat: Option<Threat>,
     /// What is known of the replies that refute.
     pub refuting: Refuting,
@@ -101,22 +101,25 @@ pub struct Played {
 pub enum Course {
     /// The only event of help play.
     NoTries,
-    /// The events of a battle from a stage on.
-    InBattle { battle: Battle, stage: TriesStage },
+    /// The events of a battle that are still to come.
+    InBattle {
+        battle: Battle,
+        progress: TriesProgress,
+    },
     /// Nothing more of help play.
     Ended,
 }
 
 /// What a search for tries returns next of a battle.
 #[derive(Clone, Copy)]
-pub enum TriesStage {
+pub enum TriesProgress {
     /// The beginning of set play.
     SetPlay,
     /// That set play isn't possible.
     NotPossible,
     /// The other events of set play.
-    Within {
-        stage: Stage,
+    InSetPlay {
+        progress: Progress,
     },
     /// The beginning of a group.
     Beginning {
@@ -142,7 +145,7 @@ pub enum TriesStage {
         first: First,
         place: MovePlace,
     },
-    /// What stands below a reply.
+    /// The moves shown after a reply.
     BelowReply {
         first: First,
         reply: Played,
@@ -168,7 +171,7 @@ pub enum TriesStage {
 #[derive(Drop)]
 pub struct Step {
     /// What the search does next.
-    pub stage: TriesStage,
+    pub progress: TriesProgress,
     /// The event that the step emits, if there is one.
     pub event: Option<TryEvent>,
 }
