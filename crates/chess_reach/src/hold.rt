@@ -28,7 +28,7 @@ pub(crate) type Posts = [Post; MEN];
 /// Squares that the guards may guard, which guide the search.
 pub(crate) type Sights = [Squares; MEN];
 
-/// What a plan leads to.
+/// The goal of a plan, and what decides which men may check and where captured men go.
 #[derive(Clone, Copy)]
 pub(crate) struct Ending {
     pub(crate) goal: Goal,
@@ -101,7 +101,7 @@ fn narrowed_later(guard: &Guard, post: &Post, squares: &Whereabouts, spare: usiz
 }
 
 // Returns the post with these squares instead, if the guard gets to one of them in at most `spare` moves more
-// and checks from there. A knight or pawn has to arrive: a knight that stands there leaves and comes back, and a
+// and checks from there. A knight or pawn has to arrive: a knight already there leaves and comes back, and a
 // pawn doesn't come back. In Circe any man may check.
 fn checking(
     quest: &Quest,

@@ -228,7 +228,7 @@ fn king_guard(colour: Colour, from: Square, most: usize, are_reborn: bool) -> Gu
 }
 
 // Returns the part of `near` on which the king may end by a plan, and `None` if the mating side has too many men
-// for a search. The guards capture first where men stand, then where men may go in order to be captured.
+// for a search. The guards capture first where men are, then where men may go in order to be captured.
 fn planned_near(
     board: &Board,
     quest: &mut Quest,

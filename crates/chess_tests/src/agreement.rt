@@ -18,6 +18,7 @@ pub(crate) struct Tally {
     pub(crate) unlike: u64,
 }
 
+// Compares the diagram's position and all positions fewer than `length` moves away, under the rules `R`.
 fn compare_under<R: Rules>(diagram: &Diagram, rule: Rule, length: u32) -> Tally
     requires { IsWellFormed (position_of diagram.now) }
 {

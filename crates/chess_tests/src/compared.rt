@@ -38,6 +38,7 @@ struct Choice {
 // The legal moves in order.
 type Choices = ArrayVec<Choice, MOVES>;
 
+// Returns the legal moves in order by the plain rules.
 fn choices(plain: &Plain, rule: Rule) -> Choices {
     let mut choices = ArrayVec::new();
     let moves = plain.moves_but_for_check(rule);
@@ -126,6 +127,7 @@ fn unlike_of_moves<R: Rules>(board: &mut Board, choices: &[Choice]) -> Option<Qu
     None
 }
 
+// Returns whether `Moves` lists these legal moves in order, and then none on two calls.
 fn returns_moves<R: Rules>(board: &mut Board, choices: &[Choice]) -> bool
     requires { IsWellFormed board.old }
     ensures { board.new ≡ board.old }
@@ -139,6 +141,7 @@ fn returns_moves<R: Rules>(board: &mut Board, choices: &[Choice]) -> bool
     place.next(board).is_none() && place.next(board).is_none()
 }
 
+// Returns whether `LegalCursor` lists these legal moves in order, and then none on two calls.
 fn gives_legal_moves<R: Rules>(board: &mut Board, choices: &[Choice]) -> bool
     requires { IsWellFormed board.old }
     ensures { board.new ≡ board.old }
@@ -152,6 +155,7 @@ fn gives_legal_moves<R: Rules>(board: &mut Board, choices: &[Choice]) -> bool
     place.next(board).is_none() && place.next(board).is_none()
 }
 
+// Returns whether `MateCursor` lists the mating moves among these in order, and then none on two calls.
 fn gives_mating_moves<R: Rules>(board: &mut Board, choices: &[Choice]) -> bool
     requires { IsWellFormed board.old }
     ensures { board.new ≡ board.old }

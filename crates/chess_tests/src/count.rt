@@ -34,6 +34,7 @@ fn is_known_legal<R: Rules>(board: &Board, m: Move) -> bool {
     }
 }
 
+// Walks along all lines of `length` legal moves from the diagram's position, under the rules `R`.
 fn walk_under<R: Rules>(diagram: &Diagram, length: u32) -> Walk
     requires { IsWellFormed (position_of diagram.now) }
 {

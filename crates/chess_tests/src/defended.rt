@@ -51,6 +51,8 @@ fn rules_out_mate_by(rule: Rule, board: &mut Board, reported: &mut u32) -> bool
     }
 }
 
+// Returns whether a mate follows a move that the threats ruled safe under the rules `R`. Counts the moves
+// ruled safe before it.
 fn rules_out_a_mate<R: Rules>(rule: Rule, board: &mut Board, reported: &mut u32) -> bool
     requires { IsWellFormed board.old }
 {

@@ -100,6 +100,7 @@ pub(crate) enum Outcome {
     Mate,
 }
 
+// Returns what the rules `R` say of the move.
 fn outcome_under<R: Rules>(diagram: &Diagram, m: Move) -> Outcome
     requires { IsWellFormed (position_of diagram.now) }
 {

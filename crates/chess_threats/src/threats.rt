@@ -205,7 +205,7 @@ impl Threats {
     /// legal move might allow mate. Castling is always risky, and in Circe any capture or promotion.
     /// Except in Circe, any other move isn't risky if the king keeps a flight whatever is played next;
     /// without a certain flight, the king's captures, en passant and double steps that en passant might
-    /// capture are always risky. What is computed is kept for later calls.
+    /// capture are always risky. What is computed is stored for later calls.
     pub fn risky_squares<R: Rules>(
         &mut self,
         board: &Board,

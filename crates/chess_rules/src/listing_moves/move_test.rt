@@ -12,10 +12,10 @@ use chess_attacks::Rules;
 use chess_attacks::words::{contains, pop_first, squares_from};
 use chess_core::{Board, Kind, Move, Square, Squares};
 
-/// The candidate squares of one origin, kept while the moves from there are listed.
+/// The candidate squares of one origin, stored while the moves from there are listed.
 #[derive(Clone, Copy)]
 pub struct TargetCache {
-    /// The origin, or `None` if nothing is kept.
+    /// The origin, or `None` if nothing is stored.
     pub origin: Option<Square>,
     /// A superset of the squares to which its man moves by a move that meets the test.
     pub squares: Squares,
