@@ -51,8 +51,8 @@ fn compare_on<R: Rules>(board: &mut Board, rule: Rule, length: u32) -> Tally
     if length <= 1 {
         return Tally { positions, unlike };
     }
-    let mut place = Moves::<R>::start();
-    while let Some(m) = place.next(board) {
+    let mut cursor = Moves::<R>::start();
+    while let Some(m) = cursor.next(board) {
         let undo = play::<R>(board, m);
         let below = compare_on::<R>(board, rule, length - 1);
         unplay::<R>(board, m, undo);

@@ -76,8 +76,8 @@ fn said_of<R: Rules>(rule: Rule, diagram: &Diagram, from: Square) -> Said
         return Said::Nothing;
     };
     let mut flights = KeptFlights::of::<R>(&board, king);
-    let known = LegalCursor::<R>::of(&board);
-    if !known.has_removed(&mut flights, &mut board, only(Some(from))) {
+    let cursor = LegalCursor::<R>::of(&board);
+    if !cursor.has_removed(&mut flights, &mut board, only(Some(from))) {
         return Said::Nothing;
     }
     if has_safe_move(rule, &plain, from) {

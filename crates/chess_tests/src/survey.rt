@@ -135,11 +135,11 @@ fn play_drawn<R: Rules>(board: &mut Board, draw: &mut Draw) -> bool
     requires { IsWellFormed board.old }
     ensures { IsWellFormed board.new }
 {
-    let mut place = Moves::<R>::start();
+    let mut cursor = Moves::<R>::start();
     for _skipped in 0..draw.below(40) {
-        let _move = place.next(board);
+        let _move = cursor.next(board);
     }
-    let mut next = place.next(board);
+    let mut next = cursor.next(board);
     if next.is_none() {
         next = Moves::<R>::start().next(board);
     }
