@@ -117,7 +117,7 @@ pub fn occupied(board: &Board) -> Squares
 }
 
 // Returns the squares that a rider on `from` reaches in this direction. Only `occupied` matters, not
-// which men stand there.
+// which men are there.
 fn ride(occupied: Squares, from: Square, direction: Direction) -> Squares
     ensures { (men : List (Option Man)) → occupied ≡ occupied_squares men
         → result ≡ word (λ t. rides men from t (step_of direction)) }
@@ -141,7 +141,7 @@ pub fn diagonal_lines(from: Square) -> Squares
     DIAGONAL_LINES[from.index() as usize]
 }
 
-/// Returns the squares that a rook on `from` reaches. Only `occupied` matters, not which men stand
+/// Returns the squares that a rook on `from` reaches. Only `occupied` matters, not which men are
 /// there.
 pub fn straight_rides(occupied: Squares, from: Square) -> Squares
     ensures { (men : List (Option Man)) → occupied ≡ occupied_squares men
@@ -153,7 +153,7 @@ pub fn straight_rides(occupied: Squares, from: Square) -> Squares
         | ride(occupied, from, Direction::South)
 }
 
-/// Returns the squares that a bishop on `from` reaches. Only `occupied` matters, not which men stand
+/// Returns the squares that a bishop on `from` reaches. Only `occupied` matters, not which men are
 /// there.
 pub fn diagonal_rides(occupied: Squares, from: Square) -> Squares
     ensures { (men : List (Option Man)) → occupied ≡ occupied_squares men

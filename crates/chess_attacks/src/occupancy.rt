@@ -47,7 +47,7 @@ pub fn occupancy_after(
     }
 }
 
-// Returns the squares of the men of this colour and kind that still stand.
+// Returns the squares of the men of this colour and kind that are still standing.
 pub(crate) fn squares_seen(
     board: &Board,
     occupancy: Occupancy,

@@ -13,7 +13,7 @@ use crate::words::contains;
 use chess_core::{Board, Colour, Kind, Square, Squares};
 
 /// Returns the squares where a man of this colour and kind on `from` could capture an enemy. Only
-/// `occupied` matters, not which men stand there. A pawn captures diagonally; its steps forward aren't
+/// `occupied` matters, not which men are there. A pawn captures diagonally; its steps forward aren't
 /// included.
 #[tactic(auto, unfolding(crate::specs::Reaches::reaches_as))]
 pub fn reach_over(occupied: Squares, colour: Colour, kind: Kind, from: Square) -> Squares

@@ -1,4 +1,4 @@
-//! Where a man could go on some board, whoever else stands there.
+//! Where a man could go on some board, whoever else is there.
 ghost use Rattle.chess_attacks.specs.ties.Lines.{AreReached};
 
 use crate::leaps::leaps_of;

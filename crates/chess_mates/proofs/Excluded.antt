@@ -7,7 +7,8 @@ use Rattle.chess_core.specs.SquareNames.{a1, d1, h1, a2, a3, d3, d6, e5, h7, a8,
 use Rattle.chess_rules.proofs.Typed.{check_after_a_move}
 use Rattle.chess_rules.proofs.Excluded.{opening_capture}
 
--- White Ka1 Bb3 Pe5, Black Kg8 Pd5, which has just passed d6 (`opening_capture`): the capture en passant gives check by the bishop
+-- White Ka1 Bb3 Pe5, Black Kg8 Pd5, which has just passed d6 (`opening_capture`): the capture en passant gives
+-- check by the bishop
 en_passant_checks : (is_legal orthodox opening_capture (go e5 d6) ≡ true)
     × (in_check orthodox (position_after orthodox opening_capture (go e5 d6)).men Black ≡ true)
 unfolding is_legal check_after_a_move
@@ -24,8 +25,8 @@ pub no_pawn_checks_from_there : (may_check_from opening_capture.men Black (enemy
 unfolding may_check_from may_expose is_reached is_on_fairy_line is_ahead is_blocking is_rider_beyond check_after_a_move
 no_pawn_checks_from_there = (refl, refl)
 
--- Circe, White Ka1 Ga8 Rd1, Black Kh8 Sd3: the rook captures the knight, which is reborn on g8, and the grasshopper hops
--- over it to the king
+-- Circe, White Ka1 Ga8 Rd1, Black Kh8 Sd3: the rook captures the knight, which is reborn on g8, and the
+-- grasshopper hops over it to the king
 abbrev reborn_hurdle : Position
 reborn_hurdle = position (on White King a1 ∷ on White Grasshopper a8 ∷ on White Rook d1 ∷ on Black King h8 ∷ on Black Knight d3 ∷ []) White
 
@@ -40,7 +41,8 @@ pub captures_with_rebirth_may_give_check : (w : ℕ) → AreCheckTargets circe r
 captures_with_rebirth_may_give_check w are = true_from_ne_false _ (λ e. false≢true
     (sym (are.elsewhere (go d1 d3) refl (omega arith) reborn_knight_checks.0 e) ∙ reborn_knight_checks.1))
 
--- Black Ka1 Pa2, a White grasshopper on h7: on a3 it gives check over the pawn, where a queen gives none, and on h1 a queen alone does
+-- Black Ka1 Pa2, a White grasshopper on h7: on a3 it gives check over the pawn, where a queen gives none, and
+-- on h1 a queen alone does
 abbrev hop_to_a_king : List (Option Man)
 hop_to_a_king = set_up (on Black King a1 ∷ on Black Pawn a2 ∷ on White Grasshopper h7 ∷ [])
 

@@ -66,7 +66,8 @@ absent_lacks : (men : _) (e : Colour) → length men ≡ 64 → is_absent men (r
 absent_lacks men e size absent = λ s. false_from_ne_true _ (λ h.
     search (rules, man_there (man_on men s) e Grasshopper h, false≢true, not-true _ absent, some_square_true, on_board))
 
--- where the mover has no grasshopper, a move that gives no check in orthodox chess gives none in Circe, promotions apart
+-- where the mover has no grasshopper, a move that gives no check in orthodox chess gives none in Circe,
+-- promotions apart
 rebirth_gives_no_check : (p : Position) (x : Man) (m : Move) → IsWellFormed p → is_pseudo_legal circe p m ≡ true → man_on p.men m.from ≡ Some x
     → m.promo ≡ None → is_absent p.men (record { colour = p.turn; kind = Grasshopper }) ≡ true
     → in_check orthodox (position_after orthodox p m).men (other p.turn) ≡ false → in_check circe (position_after circe p m).men (other p.turn) ≡ false

@@ -61,10 +61,10 @@ pub fn next_mate<R: Rules>(place: &mut MovePlace, board: &mut Board) -> Option<M
     ensures legal { IfSome result (λ m. is_legal R.rule board.old m ≡ true) }
     ensures board { board.new ≡ board.old }
 {
-    let mut moves = mate_cursor::<R>(board);
-    moves.go_to(*place);
-    let found = moves.next(board);
-    *place = moves.place();
+    let mut cursor = mate_cursor::<R>(board);
+    cursor.go_to(*place);
+    let found = cursor.next(board);
+    *place = cursor.place();
     found
 }
 
@@ -162,7 +162,7 @@ fn is_mating<R: Rules>(board: &mut Board, squares: &CheckSquares, m: Move) -> bo
 fn gives_mate<R: Rules>(board: &mut Board, m: Move, flights: Flights, parries: Parries) -> bool
     requires well_formed { IsWellFormed board.old }
     requires pseudo { is_pseudo_legal R.rule board.old m ≡ true }
-    requires reported { IsKnown R.rule (position_after R.rule board.old m) flights }
+    requires flights { IsKnown R.rule (position_after R.rule board.old m) flights }
     requires parries { AreParries R.rule (position_after R.rule board.old m) parries }
     ensures answer { result ≡ mates R.rule board.old m }
     ensures board { board.new ≡ board.old }
@@ -183,7 +183,7 @@ fn is_mated_by<R: Rules>(
     parries: Parries,
 ) -> bool
     requires well_formed { IsWellFormed board.old }
-    requires reported { IsKnown R.rule board.old flights }
+    requires flights { IsKnown R.rule board.old flights }
     requires parries { AreParries R.rule board.old parries }
     ensures answer { result ≡ (not (in_check R.rule board.old.men mover)
         && is_mate R.rule board.old) }
@@ -212,7 +212,7 @@ fn is_checked<R: Rules>(board: &Board, parries: Parries) -> bool
 fn has_move_in_check<R: Rules>(board: &mut Board, flights: Flights, parries: Parries) -> bool
     requires well_formed { IsWellFormed board.old }
     requires checked { in_check R.rule board.old.men board.old.turn ≡ true }
-    requires reported { IsKnown R.rule board.old flights }
+    requires flights { IsKnown R.rule board.old flights }
     requires parries { AreParries R.rule board.old parries }
     ensures answer { result ≡ not (is_nil (moves R.rule board.old)) }
     ensures board { board.new ≡ board.old }

@@ -18,7 +18,7 @@ use chess_flights::attackers::attackers_on;
 use chess_flights::free_steps::{free_steps, none_hops, unsimple_squares};
 use chess_flights::guards::{leapt_squares, rider_reach};
 
-// The most men of the mover against which flights are looked for. Against more, a king seldom has
+// The most men of the mover against which flights are looked for. Against more, a king rarely has
 // flights that remain.
 const MOST_MEN: u32 = 12;
 

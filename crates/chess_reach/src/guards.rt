@@ -46,7 +46,7 @@ impl Guard {
     pub(crate) fn unused() -> Guard {
         Guard {
             kind: Kind::King,
-            from: Square::numbered(0),
+            from: Square::A1,
             chain: [Whereabouts::nowhere(); MOVES],
         }
     }

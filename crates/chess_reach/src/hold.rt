@@ -28,7 +28,7 @@ pub(crate) type Posts = [Post; MEN];
 /// Squares that the guards may guard, which guide the search.
 pub(crate) type Sights = [Squares; MEN];
 
-/// What a plan leads to.
+/// The goal of a plan, and what decides which men may check and where captured men go.
 #[derive(Clone, Copy)]
 pub(crate) struct Ending {
     pub(crate) goal: Goal,
@@ -101,7 +101,7 @@ fn narrowed_later(guard: &Guard, post: &Post, squares: &Whereabouts, spare: usiz
 }
 
 // Returns the post with these squares instead, if the guard gets to one of them in at most `spare` moves more
-// and checks from there. A knight or pawn has to arrive: a knight that stands there leaves and comes back, and a
+// and checks from there. A knight or pawn has to arrive: a knight already there leaves and comes back, and a
 // pawn doesn't come back. In Circe any man may check.
 fn checking(
     quest: &Quest,
@@ -202,7 +202,7 @@ impl Quest {
 
 // Returns the squares without this one.
 #[inline(always)]
-fn taken_from(squares: Squares, square: Square) -> Squares
+fn without(squares: Squares, square: Square) -> Squares
     requires { (bit_at squares square == 1) ≡ true }
     ensures gone { (bit_at result square == 1) ≡ false }
     ensures others { (t : ℕ) → (bit_at result t == 1) ≡ true → (bit_at squares t == 1) ≡ true }
@@ -228,21 +228,21 @@ pub(crate) fn can_hold(
     let Some(square) = quest.hardest(posts, sights, unheld, ours, theirs) else {
         return true;
     };
-    let rest = taken_from(unheld, square);
-    let mut left = *posts;
+    let rest = without(unheld, square);
+    let mut narrowed_posts = *posts;
     let mut seen = *sights;
     let mut spare = ours;
     for i in 0..quest.count {
         let guard = &quest.guards[i];
-        let post = left[i];
+        let post = narrowed_posts[i];
         let guarding = guard.holding(quest.colour, quest.king, square, quest.ending.are_reborn);
         let kept = narrowed(guard, &post, &post.squares.within(&guarding), spare);
         if let Some(kept) = kept {
-            left[i] = kept;
+            narrowed_posts[i] = kept;
             seen[i] = guard.sight(quest.colour, &kept.squares, sights[i]);
             if can_hold(
                 quest,
-                &left,
+                &narrowed_posts,
                 &seen,
                 rest,
                 spare - (kept.moves - post.moves),
@@ -256,13 +256,13 @@ pub(crate) fn can_hold(
                 return false;
             };
             spare -= off.moves - post.moves;
-            left[i] = off;
+            narrowed_posts[i] = off;
         }
     }
     let Some(price) = quest.block_price(square, theirs) else {
         return false;
     };
-    can_hold(quest, &left, &seen, rest, spare, theirs - price)
+    can_hold(quest, &narrowed_posts, &seen, rest, spare, theirs - price)
 }
 
 // Returns whether the guard with this number may check while guards and blockers hold the squares of `unheld`.
@@ -288,13 +288,13 @@ fn can_mate_by(
     let Some(kept) = checking(quest, guard, &post, &squares, ours) else {
         return false;
     };
-    let mut left = *posts;
-    left[checker] = kept;
+    let mut narrowed_posts = *posts;
+    narrowed_posts[checker] = kept;
     let mut sights = [Squares::MAX; MEN];
     sights[checker] = guard.sight(quest.colour, &kept.squares, Squares::MAX);
     can_hold(
         quest,
-        &left,
+        &narrowed_posts,
         &sights,
         unheld,
         ours - (kept.moves - post.moves),

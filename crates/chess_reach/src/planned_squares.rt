@@ -105,10 +105,10 @@ fn may_have_plan(quest: &Quest, king: &Guard, ours: usize, theirs: usize, captur
         return false;
     };
     let unheld = unheld_squares(quest.king, quest.blockable[0]);
-    let left = theirs - captured - steps;
+    let moves = theirs - captured - steps;
     match quest.ending.goal {
-        Goal::Mate => can_mate(quest, &posts, unheld, spare, left),
-        Goal::Stalemate => can_hold(quest, &posts, &[Squares::MAX; MEN], unheld, spare, left),
+        Goal::Mate => can_mate(quest, &posts, unheld, spare, moves),
+        Goal::Stalemate => can_hold(quest, &posts, &[Squares::MAX; MEN], unheld, spare, moves),
     }
 }
 
@@ -194,12 +194,12 @@ fn planned_part(
 }
 
 // Returns whether plans have to be searched in which guards capture elsewhere than on `prey`, on `lures`, for
-// squares of `left`.
-fn may_lure(theirs: usize, prey: Squares, lures: Squares, left: Squares) -> bool
+// squares of `rest`.
+fn may_lure(theirs: usize, prey: Squares, lures: Squares, rest: Squares) -> bool
     ensures lure { result ≡ true → 0 < theirs }
-    ensures none { result ≡ false → (theirs ≡ 0) ⊎ (lures ≡ prey) ⊎ (left ≡ 0) }
+    ensures none { result ≡ false → (theirs ≡ 0) ⊎ (lures ≡ prey) ⊎ (rest ≡ 0) }
 {
-    theirs != 0 && lures != prey && left != 0
+    theirs != 0 && lures != prey && rest != 0
 }
 
 // Returns whether a pawn may promote to a kind whose promotion isn't followed.
@@ -228,7 +228,7 @@ fn king_guard(colour: Colour, from: Square, most: usize, are_reborn: bool) -> Gu
 }
 
 // Returns the part of `near` on which the king may end by a plan, and `None` if the mating side has too many men
-// for a search. The guards capture first where men stand, then where men may go in order to be captured.
+// for a search. The guards capture first where men are, then where men may go in order to be captured.
 fn planned_near(
     board: &Board,
     quest: &mut Quest,
@@ -254,15 +254,15 @@ fn planned_near(
     };
     quest.count = count;
     let planned = planned_part(quest, king, near, ours, theirs, 0);
-    let left = near & !planned;
-    if !may_lure(theirs, prey, lures, left) {
+    let rest = near & !planned;
+    if !may_lure(theirs, prey, lures, rest) {
         return Some(planned);
     }
     let Some(count) = list_guards(board, mating, most, lures, are_reborn, &mut quest.guards) else {
         return None;
     };
     quest.count = count;
-    Some(planned | planned_part(quest, king, left, ours, theirs, 1))
+    Some(planned | planned_part(quest, king, rest, ours, theirs, 1))
 }
 
 /// Returns the part of `squares` on which the king of the side to be mated may end by a plan: the mating

@@ -5,7 +5,8 @@ use Rattle.chess_rules.proofs.Targeting.{arrival_needed, every_square_on, false_
 use Rattle.chess_rules.proofs.Arrivals.{may_go_aimed}
 use Rattle.chess_rules.proofs.Walks.{off_second}
 
--- a move that isn't castling, captures nobody en passant and, in Circe, nobody at all, is plain: by the words of the squares where that may be
+-- a move that isn't castling, captures nobody en passant and, in Circe, nobody at all, is plain: by the words
+-- of the squares where that may be
 pub plain_elsewhere : (rule : RuleSet) (p : Position) (x : Man) (m : Move) (b d : ℕ) → m.to < 64 → is_castling x m ≡ false
     → b ≡ word (λ t. is_square p.crossed t) → (bit_at b m.to == 1) ≡ false
     → (captures_are_reborn rule ≡ true → d ≡ word (λ t. is_some (man_on p.men t))) → (bit_at d m.to == 1) ≡ false → is_plain rule p x m ≡ true

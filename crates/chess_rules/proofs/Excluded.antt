@@ -166,7 +166,8 @@ pub any_move_may_leave_a_check : (may_expose (king_and Black Rook a8) White h2 �
 unfolding may_expose is_reached is_on_fairy_line is_ahead is_on_some is_blocking is_rider_beyond check_after_a_move
 any_move_may_leave_a_check = (refl, refl)
 
--- after a capture en passant from e5 to d6 neither e5 nor d5 shuts a line, and d6 does; the captured pawn attacks nothing, and a man on b3 may
+-- after a capture en passant from e5 to d6 neither e5 nor d5 shuts a line, and d6 does; the captured pawn
+-- attacks nothing, and a man on b3 may
 pub captured_man_is_gone : (bit_at (occupancy_after opening_capture.men e5 (Some d5) d6).occupied e5 ≡ 0)
     × (bit_at (occupancy_after opening_capture.men e5 (Some d5) d6).occupied d5 ≡ 0)
     × (bit_at (occupancy_after opening_capture.men e5 (Some d5) d6).occupied d6 ≡ 1)
@@ -175,7 +176,8 @@ pub captured_man_is_gone : (bit_at (occupancy_after opening_capture.men e5 (Some
 unfolding word word_of squares
 captured_man_is_gone = (refl, refl, refl, refl, refl)
 
--- Madrasi, White Kh1 Rd1, Black Kb8 Rh3, which gives check: on d3 White's rook paralyses it, and only an orthodox rook checks on
+-- Madrasi, White Kh1 Rd1, Black Kb8 Rh3, which gives check: on d3 White's rook paralyses it, and only an
+-- orthodox rook checks on
 abbrev rook_faces_rook : Position
 rook_faces_rook = position (on White King h1 ∷ on White Rook d1 ∷ on Black King b8 ∷ on Black Rook h3 ∷ []) White
 
@@ -260,7 +262,8 @@ pub arriving_man_is_a_hurdle : (may_expose hurdle_comes.men White h2 ≡ false) 
 unfolding lines_to_a_king check_after_a_move
 arriving_man_is_a_hurdle = (refl, refl, refl, refl, refl, refl, refl)
 
--- White Ka1 Ra2 Na4, Black Kh8 Ga8: once the knight has gone, the rook is the hurdle, though the knight shut no line of a rook
+-- White Ka1 Ra2 Na4, Black Kh8 Ga8: once the knight has gone, the rook is the hurdle, though the knight shut no
+-- line of a rook
 abbrev hurdle_goes : Position
 hurdle_goes = position (on White King a1 ∷ on White Rook a2 ∷ on White Knight a4 ∷ on Black King h8 ∷ on Black Grasshopper a8 ∷ []) White
 
@@ -271,7 +274,8 @@ pub leaving_man_opens_a_hop : (is_blocking hurdle_goes.men Black Rook straight_s
 unfolding lines_to_a_king check_after_a_move
 leaving_man_opens_a_hop = (refl, refl, refl, refl, refl, refl)
 
--- White Kc1 Bd3, Black Kh8 and a nightrider on e5: the bishop shuts its line to the king, as no line of a knight is shut
+-- White Kc1 Bd3, Black Kh8 and a nightrider on e5: the bishop shuts its line to the king, as no line of a
+-- knight is shut
 abbrev shut_nightrider : Kind → Position
 shut_nightrider k = position (on White King c1 ∷ on White Bishop d3 ∷ on Black King h8 ∷ on Black k e5 ∷ []) White
 

@@ -43,7 +43,8 @@ pub king_there : (men : List (Option Man)) (c : Colour) (k : ℕ) → king_squar
 unfolding king_square squares
 king_there men c k h = let f = find_first (λ s. is_man (man_on men s) c King) 0 64 k h in (omega (arith, f.high), f.here)
 
--- the square that an unanswered check comes from, and the king's, aren't touched by the move, and in Madrasi nobody is promoted
+-- the square that an unanswered check comes from, and the king's, aren't touched by the move, and in Madrasi
+-- nobody is promoted
 record IsAway (rule : RuleSet) (men : List (Option Man)) (c : Colour) (a b : ℕ) (z : Man) : Type 0 where
   pub size : (s : ℕ) (y : Man) → man_on men s ≡ Some y → s < 64
   pub king : (k : ℕ) → king_square men c ≡ Some k → (k ≢ a) × (k ≢ b)

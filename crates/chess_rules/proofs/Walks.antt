@@ -72,7 +72,8 @@ module _ (rule : RuleSet) (p : Position) (test : Move → Bool) (needs : (m : Mo
   unfolding side_of
   own-origins o h = grind (arith, own_moves, word_has)
 
--- a walk over origins, from a place on: no move from one that isn't in the rest meets the test, and this has none before the place
+-- a walk over origins, from a place on: no move from one that isn't in the rest meets the test, and this has
+-- none before the place
 pub record IsWalked (test : Move → Bool) (start rest : ℕ) : Type 0 where
   pub ahead : (s : ℕ) → s < 64 → (bit_at rest s == 1) ≡ true → start / per_origin ≤ s
   pub none : (k : ℕ) → start ≤ k → k < all_triples → (bit_at rest (k / per_origin) == 1) ≡ false → test (triple_at k) ≡ false
@@ -112,7 +113,8 @@ promoted_idle : (rule : RuleSet) (p : Position) (m : Move) → is_man (man_on p.
 promoted_idle rule p m none h some =
     grind (arith, plain_aimed rule p (record { from = m.from; to = m.to; promo = None }) none h refl, no_promotion_here, named_by)
 
--- no triple to a square of the word meets the test below b, if none without a promotion does to a square that isn't in the rest, and this has none below b
+-- no triple to a square of the word meets the test below b, if none without a promotion does to a square that
+-- isn't in the rest, and this has none below b
 pub none-plain : (rule : RuleSet) (p : Position) (test : Move → Bool) → ((m : Move) → is_pseudo_legal rule p m ≡ false → test m ≡ false)
     → (s w rest a b n : ℕ) → AreCandidates rule p (meets_on w test) s w → is_man (man_on p.men s) p.turn Pawn ≡ false
     → ((t : ℕ) → t < 64 → (bit_at w t == 1) ≡ true → (bit_at rest t == 1) ≡ false → arrival_from a ≤ t

@@ -18,6 +18,7 @@ pub(crate) struct Tally {
     pub(crate) unlike: u64,
 }
 
+// Compares the diagram's position and all positions fewer than `length` moves away, under the rules `R`.
 fn compare_under<R: Rules>(diagram: &Diagram, rule: Rule, length: u32) -> Tally
     requires { IsWellFormed (position_of diagram.now) }
 {
@@ -50,8 +51,8 @@ fn compare_on<R: Rules>(board: &mut Board, rule: Rule, length: u32) -> Tally
     if length <= 1 {
         return Tally { positions, unlike };
     }
-    let mut place = Moves::<R>::start();
-    while let Some(m) = place.next(board) {
+    let mut cursor = Moves::<R>::start();
+    while let Some(m) = cursor.next(board) {
         let undo = play::<R>(board, m);
         let below = compare_on::<R>(board, rule, length - 1);
         unplay::<R>(board, m, undo);

@@ -41,6 +41,7 @@ fn stood(before: &Plain, after: &Plain, m: Move) -> u64 {
     squares
 }
 
+// Returns the square of the colour's king, if there is one.
 fn king_square(plain: &Plain, colour: Colour) -> Option<Square> {
     for number in 0..64u8 {
         let square = Square::numbered(number);
@@ -68,6 +69,7 @@ fn rank_of(square: Square) -> u64 {
 }
 
 impl<'a> Case<'a> {
+    // Returns the case of this man's move under the rule.
     pub(crate) fn of(before: &'a Plain, rule: Rule, man: Man, m: Move) -> Case<'a> {
         let after = before.after(rule, m);
         Case {
@@ -84,6 +86,7 @@ impl<'a> Case<'a> {
         }
     }
 
+    // Returns whether the move shows the motif.
     pub(crate) fn shows(&self, motif: Motif) -> bool {
         match motif {
             Motif::Exposes(kind) => self.is_pinned(kind),
@@ -98,6 +101,7 @@ impl<'a> Case<'a> {
         }
     }
 
+    // Returns whether the move shows the motif, one of pawns or one that `shows_en_passant` decides.
     fn shows_of_pawns(&self, motif: Motif) -> bool {
         match motif {
             Motif::PromotionChecks(kind) => self.promotes_with_check(kind),
@@ -111,6 +115,7 @@ impl<'a> Case<'a> {
         }
     }
 
+    // Returns whether the move shows the motif, one of en passant or one that `shows_castling` decides.
     fn shows_en_passant(&self, motif: Motif) -> bool {
         let shown = match motif {
             Motif::EnPassant => self.legal,
@@ -124,6 +129,7 @@ impl<'a> Case<'a> {
         shown && self.is_en_passant()
     }
 
+    // Returns whether the move shows the motif, one of castling or one that `shows_of_kings` decides.
     fn shows_castling(&self, motif: Motif) -> bool {
         let shown = match motif {
             Motif::Castles => self.legal,
@@ -138,6 +144,7 @@ impl<'a> Case<'a> {
         shown && self.castling().is_some()
     }
 
+    // Returns whether the move shows the motif, one of kings or one that `shows_hurdle` decides.
     fn shows_of_kings(&self, motif: Motif) -> bool {
         match motif {
             Motif::StepsAlong => self.steps_along(),
@@ -151,6 +158,7 @@ impl<'a> Case<'a> {
         }
     }
 
+    // Returns whether the move shows the motif, one of hurdles or one that `shows_rebirth` decides.
     fn shows_hurdle(&self, motif: Motif) -> bool {
         match motif {
             Motif::HurdleArrives => self.checks_over(true),
@@ -161,6 +169,7 @@ impl<'a> Case<'a> {
         }
     }
 
+    // Returns whether the move shows the motif, one of rebirth or one that `shows_paralysis` decides.
     fn shows_rebirth(&self, motif: Motif) -> bool {
         match motif {
             Motif::RebirthExposes => self.is_exposed_by_rebirth(),
@@ -176,6 +185,7 @@ impl<'a> Case<'a> {
         }
     }
 
+    // Returns whether the move shows the motif, which is one of paralysis.
     fn shows_paralysis(&self, motif: Motif) -> bool {
         match motif {
             Motif::FreesEnemy => self.frees_enemy(),
@@ -187,6 +197,7 @@ impl<'a> Case<'a> {
         }
     }
 
+    // Returns the square of the colour's king before the move, if there is one.
     fn king(&self, colour: Colour) -> Option<Square> {
         king_square(self.before, colour)
     }
@@ -196,68 +207,84 @@ impl<'a> Case<'a> {
         !self.was_in_check && self.exposing != 0
     }
 
+    // Returns whether a man of this kind exposes its king, which wasn't in check.
     fn is_pinned(&self, kind: Kind) -> bool {
         self.man.kind == kind && self.leaves_king_in_check()
     }
 
+    // Returns whether the move exposes its king, which wasn't in check, to a man of this kind.
     fn is_pinned_by(&self, kind: Kind) -> bool {
         self.leaves_king_in_check() && self.exposing & self.after.of_kind(kind) != 0
     }
 
+    // Returns whether the move parries a check.
     fn parries(&self) -> bool {
         self.was_in_check && self.legal
     }
 
+    // Returns whether the move of a man of this kind parries a check.
     fn parries_by(&self, kind: Kind) -> bool {
         self.man.kind == kind && self.parries()
     }
 
+    // Returns whether a promotion parries a check.
     fn parries_by_promotion(&self) -> bool {
         self.m.promo.is_some() && self.parries()
     }
 
+    // Returns whether the move is legal and gives check.
     fn checks(&self) -> bool {
         self.legal && self.checkers != 0
     }
 
+    // Returns whether the move is legal and two men or more give check.
     fn checks_twice(&self) -> bool {
         self.legal && self.checkers.count_ones() > 1
     }
 
+    // Returns whether the move is legal and mates.
     fn mates(&self) -> bool {
         self.checks() && self.after.is_mate(self.rule)
     }
 
+    // Returns whether the other side wasn't in check before the move.
     fn gave_no_check(&self) -> bool {
         !self.before.is_in_check(self.rule, self.man.colour.other())
     }
 
+    // Returns whether the move is legal and a man that didn't move gives check, which it didn't give before.
     fn uncovers(&self) -> bool {
         self.legal && self.gave_no_check() && self.checkers & self.stood != 0
     }
 
+    // Returns whether the move of a man of this kind uncovers a check.
     fn uncovers_by(&self, kind: Kind) -> bool {
         self.man.kind == kind && self.uncovers()
     }
 
+    // Returns whether the move of a man of this kind uncovers a check and mates.
     fn uncovers_mate(&self, kind: Kind) -> bool {
         self.uncovers_by(kind) && self.mates()
     }
 
+    // Returns whether the move uncovers a check that a man of this kind gives.
     fn is_uncovered_by(&self, kind: Kind) -> bool {
         self.uncovers() && self.checkers & self.stood & self.after.of_kind(kind) != 0
     }
 
+    // Returns whether the move, not the king's, is illegal and was made in double check.
     fn is_in_double_check(&self) -> bool {
         self.man.kind != Kind::King
             && checkers(self.before, self.rule, self.man.colour).count_ones() > 1
             && !self.legal
     }
 
+    // Returns whether the move promotes to this kind and the promoted man gives check.
     fn promotes_with_check(&self, kind: Kind) -> bool {
         self.legal && self.m.promo == Some(kind) && self.checkers & bit(self.m.to) != 0
     }
 
+    // Returns whether the move promotes to this kind, the promoted man gives check, and it is mate.
     fn promotes_with_mate(&self, kind: Kind) -> bool {
         self.promotes_with_check(kind) && self.mates()
     }
@@ -276,18 +303,22 @@ impl<'a> Case<'a> {
             && self.m.from.rank().abs_diff(self.m.to.rank()) == ranks
     }
 
+    // Returns whether a pawn mates by a move of this many ranks along its file.
     fn mates_ahead(&self, ranks: u8) -> bool {
         self.goes_ahead(ranks) && self.pawn_mates()
     }
 
+    // Returns whether a pawn mates by a capture, not en passant.
     fn mates_by_capture(&self) -> bool {
         !self.before.is_empty(self.m.to) && self.pawn_mates()
     }
 
+    // Returns whether the move is legal and the colour has no king.
     fn goes_without(&self, colour: Colour) -> bool {
         self.legal && self.king(colour).is_none()
     }
 
+    // Returns whether the king, in check, goes to a square that is attacked only because it leaves its own.
     fn steps_along(&self) -> bool {
         self.was_in_check
             && self.man.kind == Kind::King
@@ -297,6 +328,8 @@ impl<'a> Case<'a> {
                 .is_attacked(self.rule, self.m.to, self.man.colour.other())
     }
 
+    // Returns whether the move gives check, and all legal replies are the king's, to squares that were
+    // attacked before the move.
     fn opens_flight(&self) -> bool {
         if !self.checks() || self.after.is_mate(self.rule) {
             return false;
@@ -331,10 +364,13 @@ impl<'a> Case<'a> {
         self.refuges() & !self.before.attacked(self.rule, self.man.colour)
     }
 
+    // Returns whether the move mates, with a square next to the king that wasn't attacked before it.
     fn covers_flight(&self) -> bool {
         self.mates() && self.fresh_refuges() != 0
     }
 
+    // Returns whether the move mates, with a free square next to the king that is attacked only once the king
+    // is there.
     fn bars_flight_after(&self) -> bool {
         self.mates() && self.refuges() & !self.after.attacked(self.rule, self.man.colour) != 0
     }
@@ -359,6 +395,7 @@ impl<'a> Case<'a> {
         self.stood & self.after.attackers(self.rule, square, self.man.colour)
     }
 
+    // Returns whether the move is a capture en passant.
     fn is_en_passant(&self) -> bool {
         self.man.kind == Kind::Pawn
             && self.before.is_empty(self.m.to)
@@ -375,10 +412,12 @@ impl<'a> Case<'a> {
         }
     }
 
+    // Returns whether the move exposes its king along the rank that it left.
     fn opens_rank(&self) -> bool {
         self.leaves_king_in_check() && self.is_rank_open()
     }
 
+    // Returns whether the move exposes its king along another line than the rank that it left.
     fn opens_line(&self) -> bool {
         self.leaves_king_in_check() && !self.is_rank_open()
     }
@@ -402,14 +441,17 @@ impl<'a> Case<'a> {
         }
     }
 
+    // Returns whether the move is castling, not out of check, across an attacked square.
     fn castles_across(&self) -> bool {
         !self.was_in_check && self.is_crossing_attacked()
     }
 
+    // Returns whether the king arrives in check, and crosses no attacked square if the move is castling.
     fn castles_into(&self) -> bool {
         self.leaves_king_in_check() && !self.is_crossing_attacked()
     }
 
+    // Returns whether the move is castling with a paralysed rook.
     fn castles_with_paralysed_rook(&self) -> bool {
         match self.castling() {
             Some((rook, _)) => self.before.is_paralysed(self.rule, rook),
@@ -436,10 +478,14 @@ impl<'a> Case<'a> {
         lifted
     }
 
+    // Returns whether the move is legal and lets a grasshopper give check: over the man that arrived (`arrives`),
+    // or not over it.
     fn checks_over(&self, arrives: bool) -> bool {
         self.legal && self.gets_hurdle(self.checkers, self.man.colour.other(), arrives)
     }
 
+    // Returns whether the move exposes its king to a grasshopper: over the man that arrived (`arrives`), or not
+    // over it.
     fn is_exposed_over(&self, arrives: bool) -> bool {
         self.leaves_king_in_check() && self.gets_hurdle(self.exposing, self.man.colour, arrives)
     }
@@ -454,26 +500,32 @@ impl<'a> Case<'a> {
         self.unborn().is_in_check(self.rule, colour)
     }
 
+    // Returns whether the mover's king is attacked after the move only because a man was reborn.
     fn is_exposed_by_rebirth(&self) -> bool {
         self.exposing != 0 && !self.is_unborn_check(self.man.colour)
     }
 
+    // Returns whether the move is legal only because a man was reborn.
     fn is_saved_by_rebirth(&self) -> bool {
         self.legal && self.is_unborn_check(self.man.colour)
     }
 
+    // Returns whether the move is legal and gives no check only because a man was reborn.
     fn is_parried_by_rebirth(&self) -> bool {
         self.legal && self.checkers == 0 && self.is_unborn_check(self.man.colour.other())
     }
 
+    // Returns whether the move is a promotion that gives no check only because a man was reborn.
     fn is_promotion_parried(&self) -> bool {
         self.m.promo.is_some() && self.is_parried_by_rebirth()
     }
 
+    // Returns whether the move gives check only because a man was reborn.
     fn checks_by_rebirth(&self) -> bool {
         self.checks() && !self.is_unborn_check(self.man.colour.other())
     }
 
+    // Returns whether the move mates, and gives check only because a man was reborn.
     fn mates_over_reborn(&self) -> bool {
         self.checks_by_rebirth() && self.mates()
     }
@@ -488,18 +540,22 @@ impl<'a> Case<'a> {
         self.before.of_kind(Kind::Grasshopper) & self.before.of_colour(self.man.colour) != 0
     }
 
+    // Returns whether the move mates only because a man was reborn.
     fn mates_by_rebirth(&self) -> bool {
         self.mates() && !self.unborn().is_mate(self.rule)
     }
 
+    // Returns whether the move is legal and would mate if no man were reborn.
     fn is_mate_answered_by_rebirth(&self) -> bool {
         self.legal && !self.mates() && self.unborn().is_mate(self.rule)
     }
 
+    // Returns whether the move exposes its king to a man that was paralysed.
     fn frees_enemy(&self) -> bool {
         self.leaves_king_in_check() && self.was_paralysed(self.exposing, self.man.colour)
     }
 
+    // Returns whether the move is legal and a man that was paralysed gives check.
     fn frees_checker(&self) -> bool {
         self.legal && self.was_paralysed(self.checkers, self.man.colour.other())
     }
@@ -516,15 +572,18 @@ impl<'a> Case<'a> {
         }
     }
 
+    // Returns whether the move parries a check by paralysing a man that gave it.
     fn paralyses_checker(&self) -> bool {
         let checkers = checkers(self.before, self.rule, self.man.colour);
         self.parries() && checkers & self.stood & self.after.paralysed(self.rule) != 0
     }
 
+    // Returns whether the move mates only because men are paralysed.
     fn mates_by_paralysis(&self) -> bool {
         self.mates() && !self.after.is_mate(Rule::Orthodox)
     }
 
+    // Returns whether the move is legal and would mate if no man were paralysed.
     fn is_saved_by_paralysis(&self) -> bool {
         self.legal && !self.mates() && self.after.is_mate(Rule::Orthodox)
     }

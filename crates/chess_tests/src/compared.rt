@@ -38,6 +38,7 @@ struct Choice {
 // The legal moves in order.
 type Choices = ArrayVec<Choice, MOVES>;
 
+// Returns the legal moves in order by the plain rules.
 fn choices(plain: &Plain, rule: Rule) -> Choices {
     let mut choices = ArrayVec::new();
     let moves = plain.moves_but_for_check(rule);
@@ -126,43 +127,46 @@ fn unlike_of_moves<R: Rules>(board: &mut Board, choices: &[Choice]) -> Option<Qu
     None
 }
 
+// Returns whether `Moves` lists these legal moves in order, and then none on two calls.
 fn returns_moves<R: Rules>(board: &mut Board, choices: &[Choice]) -> bool
     requires { IsWellFormed board.old }
     ensures { board.new ≡ board.old }
 {
-    let mut place = Moves::<R>::start();
+    let mut cursor = Moves::<R>::start();
     for choice in choices {
-        if place.next(board) != Some(choice.by) {
+        if cursor.next(board) != Some(choice.by) {
             return false;
         }
     }
-    place.next(board).is_none() && place.next(board).is_none()
+    cursor.next(board).is_none() && cursor.next(board).is_none()
 }
 
+// Returns whether `LegalCursor` lists these legal moves in order, and then none on two calls.
 fn gives_legal_moves<R: Rules>(board: &mut Board, choices: &[Choice]) -> bool
     requires { IsWellFormed board.old }
     ensures { board.new ≡ board.old }
 {
-    let mut place = LegalCursor::<R>::of(board);
+    let mut cursor = LegalCursor::<R>::of(board);
     for choice in choices {
-        if place.next(board) != Some(choice.by) {
+        if cursor.next(board) != Some(choice.by) {
             return false;
         }
     }
-    place.next(board).is_none() && place.next(board).is_none()
+    cursor.next(board).is_none() && cursor.next(board).is_none()
 }
 
+// Returns whether `MateCursor` lists the mating moves among these in order, and then none on two calls.
 fn gives_mating_moves<R: Rules>(board: &mut Board, choices: &[Choice]) -> bool
     requires { IsWellFormed board.old }
     ensures { board.new ≡ board.old }
 {
-    let mut place = mate_cursor::<R>(board);
+    let mut cursor = mate_cursor::<R>(board);
     for choice in choices {
-        if choice.mates && place.next(board) != Some(choice.by) {
+        if choice.mates && cursor.next(board) != Some(choice.by) {
             return false;
         }
     }
-    place.next(board).is_none() && place.next(board).is_none()
+    cursor.next(board).is_none() && cursor.next(board).is_none()
 }
 
 // Returns the place after the first `count` legal moves.
@@ -170,11 +174,11 @@ fn place_after<R: Rules>(board: &mut Board, count: usize) -> MovePlace
     requires { IsWellFormed board.old }
     ensures { board.new ≡ board.old }
 {
-    let mut moves = LegalCursor::<R>::of(board);
+    let mut cursor = LegalCursor::<R>::of(board);
     for _move in 0..count {
-        let _skipped = moves.next(board);
+        let _skipped = cursor.next(board);
     }
-    moves.place()
+    cursor.place()
 }
 
 // Returns whether the cursor after the first `skipped` legal moves returns the others up to number
@@ -184,14 +188,14 @@ fn gives_until<R: Rules>(board: &mut Board, choices: &[Choice], skipped: usize, 
     ensures { board.new ≡ board.old }
 {
     let end = place_after::<R>(board, last);
-    let mut place = LegalCursor::<R>::of(board);
-    place.go_to(place_after::<R>(board, skipped));
+    let mut cursor = LegalCursor::<R>::of(board);
+    cursor.go_to(place_after::<R>(board, skipped));
     for (number, choice) in choices.iter().enumerate() {
-        if number >= skipped && number < last && place.next_until(end, board) != Some(choice.by) {
+        if number >= skipped && number < last && cursor.next_until(end, board) != Some(choice.by) {
             return false;
         }
     }
-    place.next_until(end, board).is_none()
+    cursor.next_until(end, board).is_none()
 }
 
 // Returns whether the cursor after the first `skipped` legal moves returns the mates among the others.
@@ -223,15 +227,15 @@ fn gives_mates_until<R: Rules>(
     ensures { board.new ≡ board.old }
 {
     let end = place_after::<R>(board, last);
-    let mut place = mate_cursor::<R>(board);
-    place.go_to(place_after::<R>(board, skipped));
+    let mut cursor = mate_cursor::<R>(board);
+    cursor.go_to(place_after::<R>(board, skipped));
     for (number, choice) in choices.iter().enumerate() {
         let between = number >= skipped && number < last;
-        if between && choice.mates && place.next_until(end, board) != Some(choice.by) {
+        if between && choice.mates && cursor.next_until(end, board) != Some(choice.by) {
             return false;
         }
     }
-    place.next_until(end, board).is_none()
+    cursor.next_until(end, board).is_none()
 }
 
 // Compares the positions after each legal move, and the position after each move is taken back. Returns
@@ -242,8 +246,8 @@ fn unlike_of_play<R: Rules>(board: &mut Board, plain: &Plain, rule: Rule) -> Opt
     ensures { board.new ≡ board.old }
 {
     let before = *board;
-    let mut place = Moves::<R>::start();
-    while let Some(m) = place.next(board) {
+    let mut cursor = Moves::<R>::start();
+    while let Some(m) = cursor.next(board) {
         let undo = play::<R>(board, m);
         let question = unlike_after::<R>(board, &plain.after(rule, m), rule);
         unplay::<R>(board, m, undo);

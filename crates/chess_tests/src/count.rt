@@ -34,6 +34,7 @@ fn is_known_legal<R: Rules>(board: &Board, m: Move) -> bool {
     }
 }
 
+// Walks along all lines of `length` legal moves from the diagram's position, under the rules `R`.
 fn walk_under<R: Rules>(diagram: &Diagram, length: u32) -> Walk
     requires { IsWellFormed (position_of diagram.now) }
 {
@@ -65,11 +66,11 @@ fn walk_on<R: Rules>(board: &mut Board, length: u32) -> Walk
         };
     }
     let before = *board;
-    let mut place = Moves::<R>::start();
+    let mut cursor = Moves::<R>::start();
     let mut lines = 0u64;
     let mut played = 0u64;
     let mut changed = 0u64;
-    while let Some(m) = place.next(board) {
+    while let Some(m) = cursor.next(board) {
         if length == 1 && !is_known_legal::<R>(board, m) {
             played = played.saturating_add(1);
         }

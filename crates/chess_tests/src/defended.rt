@@ -51,6 +51,8 @@ fn rules_out_mate_by(rule: Rule, board: &mut Board, reported: &mut u32) -> bool
     }
 }
 
+// Returns whether a mate follows a move that the threats ruled safe under the rules `R`. Counts the moves
+// ruled safe before it.
 fn rules_out_a_mate<R: Rules>(rule: Rule, board: &mut Board, reported: &mut u32) -> bool
     requires { IsWellFormed board.old }
 {
@@ -59,8 +61,8 @@ fn rules_out_a_mate<R: Rules>(rule: Rule, board: &mut Board, reported: &mut u32)
         return false;
     };
     let mut threats = Threats::of::<R>(board, king);
-    let mut place = Moves::<R>::start();
-    while let Some(m) = place.next(board) {
+    let mut cursor = Moves::<R>::start();
+    while let Some(m) = cursor.next(board) {
         if threats.rule_out_mate::<R>(board, m) {
             if is_followed_by_mate(rule, &plain, m) {
                 return true;

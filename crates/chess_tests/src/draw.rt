@@ -55,6 +55,7 @@ impl Draw {
         draw
     }
 
+    // Returns the next number of the generator (xorshift64*).
     fn number(&mut self) -> u64 {
         self.state ^= self.state >> 12;
         self.state ^= self.state << 25;
@@ -84,14 +85,17 @@ impl Draw {
         if self.once_in(count) { rare } else { usual }
     }
 
+    // Returns a square.
     pub(crate) fn square(&mut self) -> Square {
         Square::numbered(self.below(64))
     }
 
+    // Returns a colour.
     pub(crate) fn colour(&mut self) -> Colour {
         self.pick(2, Colour::White, Colour::Black)
     }
 
+    // Returns which kinds a position has: the orthodox ones, or all.
     pub(crate) fn kinds(&mut self) -> Kinds {
         self.pick(2, Kinds::Orthodox, Kinds::All)
     }

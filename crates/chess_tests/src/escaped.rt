@@ -55,6 +55,7 @@ enum Said {
     Wrong,
 }
 
+// Returns what the filter reports of the man on `from`.
 fn said_by(rule: Rule, diagram: &Diagram, from: Square) -> Said
     requires { IsWellFormed (position_of diagram.now) }
 {
@@ -65,6 +66,7 @@ fn said_by(rule: Rule, diagram: &Diagram, from: Square) -> Said
     }
 }
 
+// Returns what the filter reports of the man on `from` under the rules `R`.
 fn said_of<R: Rules>(rule: Rule, diagram: &Diagram, from: Square) -> Said
     requires { IsWellFormed (position_of diagram.now) }
 {
@@ -74,8 +76,8 @@ fn said_of<R: Rules>(rule: Rule, diagram: &Diagram, from: Square) -> Said
         return Said::Nothing;
     };
     let mut flights = KeptFlights::of::<R>(&board, king);
-    let known = LegalCursor::<R>::of(&board);
-    if !known.has_removed(&mut flights, &mut board, only(Some(from))) {
+    let cursor = LegalCursor::<R>::of(&board);
+    if !cursor.has_removed(&mut flights, &mut board, only(Some(from))) {
         return Said::Nothing;
     }
     if has_safe_move(rule, &plain, from) {

@@ -115,10 +115,12 @@ impl Plain {
         }
     }
 
+    // Returns the man on a square, if there is one.
     pub(crate) fn man(&self, square: Square) -> Option<Man> {
         self.men[square.index() as usize]
     }
 
+    // Returns whether a man of this colour and kind is on the square.
     pub(crate) fn has(&self, square: Square, colour: Colour, kind: Kind) -> bool {
         self.man(square) == Some(Man { colour, kind })
     }
@@ -209,6 +211,7 @@ impl Plain {
         }
     }
 
+    // Returns whether the man on the square is paralysed.
     pub(crate) fn is_paralysed(&self, rule: Rule, square: Square) -> bool {
         let Some(man) = self.man(square) else {
             return false;
@@ -225,6 +228,7 @@ impl Plain {
         false
     }
 
+    // Returns whether the colour is in check.
     pub(crate) fn is_in_check(&self, rule: Rule, colour: Colour) -> bool {
         for number in 0..64u8 {
             let king = Square::numbered(number);
@@ -242,6 +246,7 @@ impl Plain {
             && !self.is_paralysed(rule, from)
     }
 
+    // Returns whether the colour attacks the square.
     pub(crate) fn is_attacked(&self, rule: Rule, square: Square, colour: Colour) -> bool {
         for number in 0..64u8 {
             if self.attacks(rule, Square::numbered(number), square, colour) {
@@ -299,6 +304,7 @@ impl Plain {
         squares
     }
 
+    // Returns whether no man is on the square.
     pub(crate) fn is_empty(&self, square: Square) -> bool {
         self.man(square).is_none()
     }

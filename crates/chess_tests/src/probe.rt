@@ -82,8 +82,8 @@ fn after_move<R: Rules>(diagram: &Diagram, wanted: Move) -> Option<Board>
     ensures { IfSome result (λ q. IsWellFormed q) }
 {
     let mut board = Board::of(diagram);
-    let mut place = Moves::<R>::start();
-    while let Some(m) = place.next(&mut board) {
+    let mut cursor = Moves::<R>::start();
+    while let Some(m) = cursor.next(&mut board) {
         if m == wanted {
             let _undo = play::<R>(&mut board, m);
             return Some(board);
@@ -100,6 +100,7 @@ pub(crate) enum Outcome {
     Mate,
 }
 
+// Returns what the rules `R` say of the move.
 fn outcome_under<R: Rules>(diagram: &Diagram, m: Move) -> Outcome
     requires { IsWellFormed (position_of diagram.now) }
 {
@@ -136,8 +137,8 @@ fn leads_and_back<R: Rules>(diagram: &Diagram, wanted: Move, after: &Board) -> b
 {
     let before = Board::of(diagram);
     let mut board = before;
-    let mut place = Moves::<R>::start();
-    while let Some(m) = place.next(&mut board) {
+    let mut cursor = Moves::<R>::start();
+    while let Some(m) = cursor.next(&mut board) {
         if m == wanted {
             let undo = play::<R>(&mut board, m);
             let leads = is_same(&board, after);
@@ -162,9 +163,9 @@ fn moves_under<R: Rules>(diagram: &Diagram) -> plain::Moves
     requires { IsWellFormed (position_of diagram.now) }
 {
     let mut board = Board::of(diagram);
-    let mut place = Moves::<R>::start();
+    let mut cursor = Moves::<R>::start();
     let mut moves = ArrayVec::new();
-    while let Some(m) = place.next(&mut board) {
+    while let Some(m) = cursor.next(&mut board) {
         let _fits = moves.try_push(m);
     }
     moves
@@ -188,9 +189,9 @@ fn mates_under<R: Rules>(diagram: &Diagram) -> plain::Moves
     requires { IsWellFormed (position_of diagram.now) }
 {
     let mut board = Board::of(diagram);
-    let mut place = mate_cursor::<R>(&board);
+    let mut cursor = mate_cursor::<R>(&board);
     let mut moves = ArrayVec::new();
-    while let Some(m) = place.next(&mut board) {
+    while let Some(m) = cursor.next(&mut board) {
         let _fits = moves.try_push(m);
     }
     moves
@@ -214,8 +215,8 @@ fn is_harmless_under<R: Rules>(diagram: &Diagram, wanted: Move) -> Option<bool>
     requires { IsWellFormed (position_of diagram.now) }
 {
     let mut board = Board::of(diagram);
-    let mut place = Moves::<R>::start();
-    while let Some(m) = place.next(&mut board) {
+    let mut cursor = Moves::<R>::start();
+    while let Some(m) = cursor.next(&mut board) {
         if m == wanted {
             let Some(king) = board.king_of(board.turn()) else {
                 return None;
@@ -246,8 +247,8 @@ fn steps_under<R: Rules>(diagram: &Diagram, wanted: Move) -> Option<bool>
     requires { IsWellFormed (position_of diagram.now) }
 {
     let mut board = Board::of(diagram);
-    let mut place = Moves::<R>::start();
-    while let Some(m) = place.next(&mut board) {
+    let mut cursor = Moves::<R>::start();
+    while let Some(m) = cursor.next(&mut board) {
         if m == wanted {
             return Some(QuietSteps::of(&board).follow::<R>(&board, m));
         }

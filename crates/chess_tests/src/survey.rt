@@ -51,6 +51,7 @@ impl Survey {
         }
     }
 
+    // Counts the motifs that the move shows.
     fn count_move(&mut self, plain: &Plain, rule: Rule, m: Move, motifs: &[Motif]) {
         let Some(man) = plain.man(m.from) else {
             return;
@@ -83,6 +84,7 @@ pub(crate) fn surveyed(rule: Rule, family: Family, count: u64, motifs: &[Motif])
     }
 }
 
+// Compares `count` positions of the family, and one position a half-move after each, under the rules `R`.
 fn survey_under<R: Rules>(rule: Rule, family: Family, count: u64, motifs: &[Motif]) -> Survey {
     let mut survey = Survey {
         unlike: None,
@@ -133,11 +135,11 @@ fn play_drawn<R: Rules>(board: &mut Board, draw: &mut Draw) -> bool
     requires { IsWellFormed board.old }
     ensures { IsWellFormed board.new }
 {
-    let mut place = Moves::<R>::start();
+    let mut cursor = Moves::<R>::start();
     for _skipped in 0..draw.below(40) {
-        let _move = place.next(board);
+        let _move = cursor.next(board);
     }
-    let mut next = place.next(board);
+    let mut next = cursor.next(board);
     if next.is_none() {
         next = Moves::<R>::start().next(board);
     }

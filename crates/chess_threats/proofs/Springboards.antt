@@ -75,7 +75,8 @@ module _ (a : Attackers) (t o l d n r b : ℕ) (inside : t < 64) (only : o ≡ w
   abbrev Boards : ℕ
   Boards = bit_and (bit_or (bit_and r l) (bit_and b d)) n
 
-  -- a hop along straight lines, or along diagonals: w are the squares of these lines, and u those that the hoppers reach there
+  -- a hop along straight lines, or along diagonals: w are the squares of these lines, and u those that the
+  -- hoppers reach there
   hopped : (men : List (Option Man)) (q : ℕ) (k : Kind) (xs : List Direction) (w u : ℕ) → q < 64 → (bit_at a.squares.grasshoppers q == 1) ≡ true
       → w ≡ word (is_on_some (map step_of xs) t)
       → ((s : ℕ) → s < 64 → list_any (rides (men_on 0) s t) (map step_of xs) ≡ true → list_any (rides (men_on 0) t s) (map step_of xs) ≡ true)

@@ -96,10 +96,10 @@ module _ (rule : RuleSet) (p : Position) (x : Man) (v : ThreatsSeen) (well : IsW
 
   -- among the squares of w only the ones in l are risky, if elsewhere the king keeps a flight when the man
   -- arrives
-  pub unkept_are_risky : (s w l r : ℕ) → man_on p.men s ≡ Some x → w < 2 ^ 64 → same_kind x.kind King ≡ false
+  pub only_these_are_risky : (s w l r : ℕ) → man_on p.men s ≡ Some x → w < 2 ^ 64 → same_kind x.kind King ≡ false
       → ((t : ℕ) → t < 64 → (bit_at w t == 1) ≡ true → (bit_at l t == 1) ≡ false → (captures_are_reborn rule ≡ false) × KeepsFlightBeside v.king_attack t)
       → AreRisky rule p s l r → AreRisky rule p s w r
-  unkept_are_risky s w l r here fits mortal keeps are = record {
+  only_these_are_risky s w l r here fits mortal keeps are = record {
     is_decided = λ m legal origin on off. elim (cases_Bool (bit_at l m.to == 1)) [
       | inl left ↦ are.is_decided m legal origin left off
       | inr gone ↦

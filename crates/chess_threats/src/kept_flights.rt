@@ -62,7 +62,7 @@ impl KeptFlights {
 
     // Returns which of `squares` are risky: squares where the arrival of the man on `from` might leave
     // the king without a flight.
-    fn unkept_squares<R: Rules>(&self, _board: &Board, from: Square, squares: Squares) -> Squares
+    fn risky_squares<R: Rules>(&self, _board: &Board, from: Square, squares: Squares) -> Squares
         requires well_formed { IsWellFormed _board.now }
         requires flights { AreThreatsOf R.rule _board.now self.now }
         ensures { AreRisky R.rule _board.now from squares result }
@@ -89,7 +89,7 @@ impl SquareFilter for KeptFlights {
     ghost fits = { λ t rule p. AreThreatsOf rule p t };
 
     fn kept_squares<R: Rules>(&mut self, board: &Board, from: Square, squares: Squares) -> Squares {
-        self.unkept_squares::<R>(board, from, squares)
+        self.risky_squares::<R>(board, from, squares)
     }
 
     #[tactic(auto, using(crate::proofs::ExactSteps::known_exactly))]

@@ -21,8 +21,8 @@ use chess_flights::approach_squares::promotion_squares;
 use chess_flights::attackers::Attackers;
 use chess_flights::guards::reach_of;
 
-// The most attackers against which flights and risky steps are looked for. Against more, a king seldom
-// keeps a flight, and its steps seldom save it.
+// The most attackers against which flights and risky steps are looked for. Against more, a king rarely
+// keeps a flight, and its steps rarely save it.
 pub(crate) const MOST_ATTACKERS: u32 = 7;
 
 // A king zone: the king's square (`king`); the squares next to it to which it might go, attacked or not

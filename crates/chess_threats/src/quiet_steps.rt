@@ -212,9 +212,9 @@ impl QuietSteps {
         }
     }
 
-    /// Returns whether quiet steps are known for all moves of a man at once: the enemy king has a step,
+    /// Returns whether quiet steps are found for all moves of a man at once: the enemy king has a step,
     /// and no grasshopper is on the board.
-    pub fn are_known(&self, board: &Board) -> bool
+    pub fn are_found_at_once(&self, board: &Board) -> bool
         ensures { result ≡ true → NoneHops board.now.men }
     {
         self.squares != 0 && none_hops(board)
@@ -227,7 +227,7 @@ impl QuietSteps {
         ensures { (m : Move) → is_legal R.rule board.now m ≡ true → m.from ≡ from
             → (bit_at result m.to == 1) ≡ false → must_reply_with_mate R.rule board.now m ≡ false }
     {
-        if !self.are_known(board) {
+        if !self.are_found_at_once(board) {
             return !0;
         }
         let Some(man) = board.man_at(from) else {

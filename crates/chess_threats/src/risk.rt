@@ -72,15 +72,15 @@ fn left_squares(near: Squares, man: Man, to: Square) -> Squares
 fn critical_with(near: Squares, enemies: Squares, man: Man, to: Square) -> Squares
     ensures { LeavesOne near enemies result man to }
 {
-    let left = left_squares(near, man, to);
-    let Some(first) = next_bit(left, 0) else {
+    let remaining = left_squares(near, man, to);
+    let Some(first) = next_bit(remaining, 0) else {
         return if contains(enemies, to) {
             only(Some(to))
         } else {
             !0
         };
     };
-    let Some(_second) = next_bit(left, first.index() + 1) else {
+    let Some(_second) = next_bit(remaining, first.index() + 1) else {
         return only(Some(first));
     };
     0
@@ -248,9 +248,9 @@ fn risk_of_going(
     let region = king_zone.near | king_zone.captures | only(Some(king_zone.king));
     let guards = guards_without(king_attack, from, region);
     let watched = watched_squares(&guards, king_zone.king, reached, targets);
-    let left = uncaptured_squares(king_zone, &guards, watched);
-    if may_spring(king_attack, king_zone, from, left)
-        || may_become_fairy(&king_attack.men, man, left)
+    let uncaptured = uncaptured_squares(king_zone, &guards, watched);
+    if may_spring(king_attack, king_zone, from, uncaptured)
+        || may_become_fairy(&king_attack.men, man, uncaptured)
     {
         return WHOLE_RISK;
     }
@@ -261,7 +261,7 @@ fn risk_of_going(
             man,
             from,
             king_zone.near & !guards.guarded,
-            left,
+            uncaptured,
         ),
         lines: guards.ridden,
     }
@@ -527,21 +527,21 @@ fn risk_of_king_attack(king_attack: &KingAttack) -> Risk
     }
 }
 
-// Returns the risk of the king on its own square. Takes it from `kept`, or computes it and keeps it
+// Returns the risk of the king on its own square. Takes it from `cache`, or computes it and stores it
 // there.
 #[inline(always)]
-pub(crate) fn cached_risk(king_attack: &KingAttack, kept: &mut Option<Risk>) -> Risk
+pub(crate) fn cached_risk(king_attack: &KingAttack, cache: &mut Option<Risk>) -> Risk
     requires king_attack { IsKingAttack king_attack.now }
     requires whole { IsWhole king_attack.now }
-    requires kept { IfSome kept.old (λ r. AreThreats king_attack.now r) }
+    requires cache { IfSome cache.old (λ r. AreThreats king_attack.now r) }
     ensures threats { AreThreats king_attack.now result }
-    ensures kept { IfSome kept.new (λ r. AreThreats king_attack.now r) }
+    ensures cache { IfSome cache.new (λ r. AreThreats king_attack.now r) }
 {
-    if let Some(risk) = *kept {
+    if let Some(risk) = *cache {
         return risk;
     }
     let risk = risk_of_king_attack(king_attack);
-    *kept = Some(risk);
+    *cache = Some(risk);
     risk
 }
 
@@ -554,23 +554,23 @@ fn risk_after(king_attack: &KingAttack, from: Square) -> Risk
 }
 
 // Returns the risk after the defender on `from` has left a line on which it is a hurdle. Takes it from
-// `kept` if that is for `from`; otherwise computes it and keeps it there for the defender's other moves.
+// `cache` if that is for `from`; otherwise computes it and stores it there for the defender's other moves.
 fn cached_risk_after(
     king_attack: &KingAttack,
-    kept: &mut Option<RiskAfterLeaving>,
+    cache: &mut Option<RiskAfterLeaving>,
     from: Square,
 ) -> Risk
-    requires { IfSome kept.old (λ b. IsRiskAfterLeaving king_attack.now b.from b.risk) }
+    requires { IfSome cache.old (λ b. IsRiskAfterLeaving king_attack.now b.from b.risk) }
     ensures risk { IsRiskAfterLeaving king_attack.now from result }
-    ensures kept { IfSome kept.new (λ b. IsRiskAfterLeaving king_attack.now b.from b.risk) }
+    ensures cache { IfSome cache.new (λ b. IsRiskAfterLeaving king_attack.now b.from b.risk) }
 {
-    if let Some(following) = *kept {
+    if let Some(following) = *cache {
         if following.from == from {
             return following.risk;
         }
     }
     let risk = risk_after(king_attack, from);
-    *kept = Some(RiskAfterLeaving { from, risk });
+    *cache = Some(RiskAfterLeaving { from, risk });
     risk
 }
 
@@ -581,22 +581,22 @@ fn cached_risk_after(
 pub(crate) fn critical_from(
     king_attack: &KingAttack,
     risk: &Risk,
-    kept: &mut Option<RiskAfterLeaving>,
+    cache: &mut Option<RiskAfterLeaving>,
     from: Square,
     squares: Squares,
 ) -> Squares
     requires threats { AreThreats king_attack.now risk.now }
-    requires kept { IfSome kept.old (λ b. IsRiskAfterLeaving king_attack.now b.from b.risk) }
+    requires cache { IfSome cache.old (λ b. IsRiskAfterLeaving king_attack.now b.from b.risk) }
     ensures safe { (t : ℕ) → (bit_at squares t == 1) ≡ true → (bit_at result t == 1) ≡ false
         → IsSafeMove king_attack.now from t }
-    ensures kept { IfSome kept.new (λ b. IsRiskAfterLeaving king_attack.now b.from b.risk) }
+    ensures cache { IfSome cache.new (λ b. IsRiskAfterLeaving king_attack.now b.from b.risk) }
 {
     from.show_below_64();
     if squares & !risk.critical == 0 {
         return squares;
     }
     if contains(risk.lines, from) {
-        cached_risk_after(king_attack, kept, from).critical
+        cached_risk_after(king_attack, cache, from).critical
     } else {
         risk.critical
     }

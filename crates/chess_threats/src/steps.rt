@@ -176,27 +176,27 @@ fn risky_steps<R: Rules>(king_attack: &KingAttack, targets: &OpenTargets, steps:
     risky_among::<R>(king_attack, targets, unbarred)
 }
 
-// Returns which of the steps might allow mate. Takes them from `kept` if that is for these steps and
-// rules; otherwise computes them and keeps them there.
+// Returns which of the steps might allow mate. Takes them from `cache` if that is for these steps and
+// rules; otherwise computes them and stores them there.
 pub(crate) fn cached_risky_steps<R: Rules>(
     king_attack: &KingAttack,
     targets: &OpenTargets,
-    kept: &mut StepCache,
+    cache: &mut StepCache,
     steps: Squares,
 ) -> Squares
     requires targets { AreOpenTargets king_attack.now.men targets.now }
-    requires kept { IsStepCacheOf king_attack.now kept.old }
+    requires cache { IsStepCacheOf king_attack.now cache.old }
     ensures risky { (t : ℕ) → t < 64 → (bit_at steps t == 1) ≡ true
         → (bit_at result t == 1) ≡ false → IsDecidedStep R.rule king_attack.now t }
-    ensures kept { IsStepCacheOf king_attack.now kept.new }
+    ensures cache { IsStepCacheOf king_attack.now cache.new }
 {
     let stand_still = R::like_men_paralyse();
     let reborn = R::captures_are_reborn();
-    if kept.steps == steps && kept.stand_still == stand_still && kept.reborn == reborn {
-        return kept.risky;
+    if cache.steps == steps && cache.stand_still == stand_still && cache.reborn == reborn {
+        return cache.risky;
     }
     let risky = risky_steps::<R>(king_attack, targets, steps);
-    *kept = StepCache {
+    *cache = StepCache {
         steps,
         stand_still,
         reborn,

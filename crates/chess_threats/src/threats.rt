@@ -86,9 +86,9 @@ fn unplain_squares<R: Rules>(board: &Board, man: Man, from: Square) -> Squares
     special | altering_squares(board, man, from)
 }
 
-// Returns which of the squares are needed; in Circe all of them.
+// Returns which of `squares` are needed for the king to keep a flight; in Circe all of them.
 #[tactic(auto, using(chess_rules::proofs::Walks::off_second))]
-fn unkept_squares<R: Rules>(needed: Squares, squares: Squares) -> Squares
+fn needed_among<R: Rules>(needed: Squares, squares: Squares) -> Squares
     ensures { (t : ℕ) → t < 64 → (bit_at squares t == 1) ≡ true → (bit_at result t == 1) ≡ false
         → (captures_are_reborn R.rule ≡ false) × ((bit_at needed t == 1) ≡ false) }
 {
@@ -120,8 +120,8 @@ fn critical_of(
     if squares == 0 {
         return 0;
     }
-    let reported = cached_risk(king_attack, risk);
-    critical_from(king_attack, &reported, following, from, squares)
+    let king_risk = cached_risk(king_attack, risk);
+    critical_from(king_attack, &king_risk, following, from, squares)
 }
 
 /// The mate threats of the side that isn't to move, computed for one position: for each man of the side
@@ -205,7 +205,7 @@ impl Threats {
     /// legal move might allow mate. Castling is always risky, and in Circe any capture or promotion.
     /// Except in Circe, any other move isn't risky if the king keeps a flight whatever is played next;
     /// without a certain flight, the king's captures, en passant and double steps that en passant might
-    /// capture are always risky. What is computed is kept for later calls.
+    /// capture are always risky. What is computed is stored for later calls.
     pub fn risky_squares<R: Rules>(
         &mut self,
         board: &Board,
@@ -232,8 +232,8 @@ impl Threats {
             );
             return squares & (unplain | risky);
         }
-        let left = unkept_squares::<R>(self.needed, squares);
-        let others = left & !unplain;
+        let needed = needed_among::<R>(self.needed, squares);
+        let others = needed & !unplain;
         let critical = critical_of(
             &self.king_attack,
             &mut self.risk,
@@ -241,7 +241,7 @@ impl Threats {
             from,
             others,
         );
-        left & (unplain | critical)
+        needed & (unplain | critical)
     }
 
     // Returns whether the king certainly keeps a flight, whatever is played next, when the man on

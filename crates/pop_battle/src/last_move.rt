@@ -63,7 +63,7 @@ fn next_unquiet<R: Rules>(
         cursor.old.place cursor.new.place counted.old counted.new result }
 {
     show_fits_u64(*counted);
-    if !steps.are_known(board) {
+    if !steps.are_found_at_once(board) {
         return cursor.next(board);
     }
     let kept = cursor.next_kept(steps, board);

@@ -1,4 +1,5 @@
--- A mate has a plan, a plan comes back over each legal move, and so each line that reaches the goal has one at its start.
+-- A mate has a plan, a plan comes back over each legal move, and so each line that reaches the goal has one at
+-- its start.
 use Rattle.chess_reach.proofs.Chess.{Bool, Colour, Ends, IsPlan, IsWellFormed, King, List, Man, Move, Position, RuleSet, Some, captures_are_reborn, false, in_check, is_castling, is_legal, is_man, king_square, length, man_on, other, position_after, reborn_square, suc, true, ℕ, ◌+◌, ◌/◌, ◌≡◌, ◌≢◌, ◌∙◌, arriving_man, capture_square, arith}
 use Rattle.chess_reach.proofs.Castling.{other_castling, own_castling}
 use Rattle.chess_reach.proofs.Gone.{is_gone}
@@ -11,13 +12,14 @@ use Rattle.chess_rules.proofs.LegalMoves.{may_be_made}
 use Rattle.chess_rules.proofs.Pseudo.{made}
 use Rattle.pop_stipulation.specs.declared.stipulation.Goal.{Goal}
 
--- There is a plan in n moves of colour c and m of the other side, whose king ends on k; a knight or pawn that has made no move checks only if
--- `standing_checks`.
+-- There is a plan in n moves of colour c and m of the other side, whose king ends on k; a knight or pawn that
+-- has made no move checks only if `standing_checks`.
 abbrev pub HasPlan : Goal → Bool → RuleSet → Position → Colour → ℕ → ℕ → ℕ → Type 0
 HasPlan goal standing_checks rule p c n m k = (ends : Ends) × IsPlan goal standing_checks (captures_are_reborn rule) p c n m k ends
 
 module _ (rule : RuleSet) (goal : Goal) (c : Colour) (k : ℕ) where
-  -- If the other side is mated (or stalemated) with its king on k, and c isn't in check, there is a plan without any move.
+  -- If the other side is mated (or stalemated) with its king on k, and c isn't in check, there is a plan
+  -- without any move.
   pub mate_has_plan : (p : Position) → IsWellFormed p → p.turn ≡ other c → in_check rule p.men c ≡ false → king_square p.men (other c) ≡ Some k
       → reaches_goal goal rule p ≡ true → HasPlan goal true rule p c 0 0 k
   mate_has_plan p well turn safe king reaches = (stays p.men, picture rule p c k well turn safe king goal reaches)
@@ -59,9 +61,10 @@ module _ (rule : RuleSet) (goal : Goal) (c : Colour) (k : ℕ) where
         three = omega arith
 
   module _ (line : List Move) (p : Position) (well : IsWellFormed p) (legal : IsLegalLine rule p line) where
-    -- If a line of h legal moves, the last of them by c, reaches the goal with the other side's king on k, then its start has a plan: in half
-    -- of the h moves of each side, c having the one more if h is odd; and in two moves more of a side whose king still has castling rights.
-    -- A knight or pawn that checks in it has made a move, except in Madrasi and Circe. If h is 1, the king must not be in check already.
+    -- If a line of h legal moves, the last of them by c, reaches the goal with the other side's king on k, then
+    -- its start has a plan: in half of the h moves of each side, c having the one more if h is odd; and in two
+    -- moves more of a side whose king still has castling rights. A knight or pawn that checks in it has made a
+    -- move, except in Madrasi and Circe. If h is 1, the king must not be in check already.
     pub line_has_plan : length line ≢ 0 → (length line ≡ 1 → in_check rule p.men (other c) ≡ false) → p.turn ≡ mover c (length line) → reaches_goal goal rule (line_end rule p line) ≡ true
         → king_square (line_end rule p line).men (other c) ≡ Some k
         → HasPlan goal (standing_checks rule) rule p c ((length line + 1) / 2 + saved_moves p c) (length line / 2 + saved_moves p (other c)) k

@@ -23,7 +23,7 @@ fn are_empty(board: &Board, low: u8, high: u8) -> bool
 }
 
 // Returns whether the king may castle (Codex, article 16): king and rook have the right to, no man
-// stands between them, the rook isn't paralysed (own), and the king is in check neither on its square
+// is between them, the rook isn't paralysed (own), and the king is in check neither on its square
 // nor on the square that it crosses. For the last test the king is put on that square for a moment; the
 // board is unchanged afterwards.
 #[tactic(auto, using(crate::proofs::Castles::castling), unfolding(crate::specs::Legal::can_castle))]

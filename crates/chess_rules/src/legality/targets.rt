@@ -74,7 +74,7 @@ fn castling_squares(board: &Board, man: Man, from: Square) -> Squares
     }
 }
 
-// Returns the squares to which the man on `from` may go, whoever stands there. Castling meets only some
+// Returns the squares to which the man on `from` may go, whoever is there. Castling meets only some
 // of its tests.
 #[tactic(auto, using(crate::proofs::Arrivals::other_ways, crate::proofs::Arrivals::pawn_ways))]
 fn arrivals_of(board: &Board, man: Man, from: Square) -> Squares

@@ -87,9 +87,9 @@ fn are_surely_legal<R: Rules>(
     squares & untested_squares::<R>(board, man, blocker_squares) == 0
 }
 
-// Returns whether all moves of the man on `from` to the squares of `given` are certainly legal. Needs no
-// test if `given` says that they are.
-fn are_known_legal<R: Rules>(
+// Returns whether no move of the man on `from` to the squares of `given` needs a test, since all of them are
+// certainly legal: `given` says so, or the squares show it.
+fn need_no_test<R: Rules>(
     board: &Board,
     blocker_squares: Squares,
     from: Square,
@@ -112,14 +112,14 @@ fn are_known_legal<R: Rules>(
 #[inline(always)]
 fn count_of_pawn<R: Rules>(
     board: &mut Board,
-    known: LegalityMasks,
+    masks: LegalityMasks,
     squares: Squares,
     from: Square,
     start: u16,
     end: u16,
 ) -> u16
     requires well_formed { IsWellFormed board.old }
-    requires known { IsKnownIn R.rule board.old known }
+    requires masks { IsKnownIn R.rule board.old masks }
     requires squares { AreCandidates R.rule board.old (is_legal R.rule board.old) from squares }
     requires start { start ≤ end }
     requires end { end ≤ per_origin }
@@ -131,7 +131,7 @@ fn count_of_pawn<R: Rules>(
     let mut at = next_from(board, from, squares, start);
     while at < end {
         let m = move_at(first + at);
-        count += u16::from(is_legal::<R>(board, known.blocker_squares, known.evasion_squares, m));
+        count += u16::from(is_legal::<R>(board, masks.blocker_squares, masks.evasion_squares, m));
         at = next_from(board, from, squares, at + 1);
     }
     count
@@ -143,14 +143,14 @@ fn count_of_pawn<R: Rules>(
 #[inline(always)]
 fn count_of_piece<R: Rules>(
     board: &mut Board,
-    known: LegalityMasks,
+    masks: LegalityMasks,
     squares: Squares,
     from: Square,
     start: u16,
     end: u16,
 ) -> u16
     requires well_formed { IsWellFormed board.old }
-    requires known { IsKnownIn R.rule board.old known }
+    requires masks { IsKnownIn R.rule board.old masks }
     requires squares { AreCandidates R.rule board.old (is_legal R.rule board.old) from squares }
     requires no_pawn { is_man (man_on board.old.men from) board.old.turn Pawn ≡ false }
     requires start { start ≤ end }
@@ -169,7 +169,7 @@ fn count_of_piece<R: Rules>(
             to,
             promo: None,
         };
-        let legal = is_legal::<R>(board, known.blocker_squares, known.evasion_squares, m);
+        let legal = is_legal::<R>(board, masks.blocker_squares, masks.evasion_squares, m);
         count += u16::from(legal);
     }
     count
@@ -181,14 +181,14 @@ fn count_of_piece<R: Rules>(
 #[tactic(auto, using(chess_attacks::proofs::Bits::word_has), unfolding(chess_core::specs::ties::Words::squares_of))]
 fn count_one_by_one<R: Rules>(
     board: &mut Board,
-    known: LegalityMasks,
+    masks: LegalityMasks,
     squares: Squares,
     from: Square,
     start: u16,
     end: u16,
 ) -> u16
     requires well_formed { IsWellFormed board.old }
-    requires known { IsKnownIn R.rule board.old known }
+    requires masks { IsKnownIn R.rule board.old masks }
     requires squares { AreCandidates R.rule board.old (is_legal R.rule board.old) from squares }
     requires start { start ≤ end }
     requires end { end ≤ per_origin }
@@ -196,9 +196,9 @@ fn count_one_by_one<R: Rules>(
     ensures board { board.new ≡ board.old }
 {
     if contains(board.squares(board.turn(), Kind::Pawn), from) {
-        count_of_pawn::<R>(board, known, squares, from, start, end)
+        count_of_pawn::<R>(board, masks, squares, from, start, end)
     } else {
-        count_of_piece::<R>(board, known, squares, from, start, end)
+        count_of_piece::<R>(board, masks, squares, from, start, end)
     }
 }
 
@@ -208,14 +208,14 @@ fn count_one_by_one<R: Rules>(
 #[inline(always)]
 pub(crate) fn count_origin<R: Rules>(
     board: &mut Board,
-    known: LegalityMasks,
+    masks: LegalityMasks,
     given: Candidates,
     from: Square,
     start: u16,
     end: u16,
 ) -> u16
     requires well_formed { IsWellFormed board.old }
-    requires known { IsKnownIn R.rule board.old known }
+    requires masks { IsKnownIn R.rule board.old masks }
     requires given { AreKnownCandidates R.rule board.old from given }
     requires start { start ≤ end }
     requires end { end ≤ per_origin }
@@ -223,7 +223,7 @@ pub(crate) fn count_origin<R: Rules>(
     ensures board { board.new ≡ board.old }
 {
     let squares = given.squares;
-    if are_known_legal::<R>(board, known.blocker_squares, from, given) {
+    if need_no_test::<R>(board, masks.blocker_squares, from, given) {
         // Usually the whole origin is counted, and no division is needed.
         if start == 0 && end == PER_ORIGIN {
             return squares.count_ones() as u16;
@@ -232,5 +232,5 @@ pub(crate) fn count_origin<R: Rules>(
         let following = count_from(squares, ((end + PER_ARRIVAL - 1) / PER_ARRIVAL) as u8);
         return ahead.saturating_sub(following);
     }
-    count_one_by_one::<R>(board, known, squares, from, start, end)
+    count_one_by_one::<R>(board, masks, squares, from, start, end)
 }

@@ -99,10 +99,10 @@ impl<R: Rules> Cursor<R, LegalityMasks> {
         ensures same { square_filter.new ≡ square_filter.old }
         ensures board { board.new ≡ board.old }
     {
-        let known = *self.test();
+        let masks = *self.test();
         let start = self.place().number();
         let mut skipped = 0;
-        let number = first_kept::<R, S>(board, known, square_filter, start, &mut skipped);
+        let number = first_kept::<R, S>(board, masks, square_filter, start, &mut skipped);
         if number < TRIPLES {
             self.go_to(MovePlace::at(number + 1));
             return NextKept {

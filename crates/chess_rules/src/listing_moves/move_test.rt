@@ -12,10 +12,10 @@ use chess_attacks::Rules;
 use chess_attacks::words::{contains, pop_first, squares_from};
 use chess_core::{Board, Kind, Move, Square, Squares};
 
-/// The candidate squares of one origin, kept while the moves from there are listed.
+/// The candidate squares of one origin, stored while the moves from there are listed.
 #[derive(Clone, Copy)]
 pub struct TargetCache {
-    /// The origin, or `None` if nothing is kept.
+    /// The origin, or `None` if nothing is stored.
     pub origin: Option<Square>,
     /// A superset of the squares to which its man moves by a move that meets the test.
     pub squares: Squares,
@@ -58,21 +58,21 @@ pub trait MoveTest {
         → test rule p m ≡ false };
 }
 
-// Returns `kept` if it belongs to this origin; otherwise computes the candidate squares of `from`.
-fn keep<R: Rules, S: MoveTest>(
+// Returns `cache` if it belongs to the origin `from`; otherwise computes its candidate squares.
+fn cache_for<R: Rules, S: MoveTest>(
     board: &Board,
     move_test: &S,
-    kept: TargetCache,
+    cache: TargetCache,
     from: Square,
 ) -> TargetCache
     requires well_formed { IsWellFormed board.now }
     requires fits { S.fits move_test.now R.rule board.now }
-    requires kept { IsTargetCacheOf R.rule board.now (S.test R.rule board.now) kept }
+    requires cache { IsTargetCacheOf R.rule board.now (S.test R.rule board.now) cache }
     ensures origin { result.origin ≡ Some from }
-    ensures kept { IsTargetCacheOf R.rule board.now (S.test R.rule board.now) result }
+    ensures cache { IsTargetCacheOf R.rule board.now (S.test R.rule board.now) result }
 {
-    if kept.origin == Some(from) {
-        return kept;
+    if cache.origin == Some(from) {
+        return cache;
     }
     TargetCache {
         origin: Some(from),
@@ -187,23 +187,23 @@ pub(crate) fn next_of_man<R: Rules, S: MoveTest>(
 }
 
 // Returns the number of the first move that meets the test, from triple `start` up to but not including `end`;
-// `end` if there is none. `kept` carries the candidates of one origin from call to call. The board is unchanged.
+// `end` if there is none. `cache` carries the candidates of one origin from call to call. The board is unchanged.
 pub(crate) fn next_met<R: Rules, S: MoveTest>(
     board: &mut Board,
     move_test: &S,
-    kept: &mut TargetCache,
+    cache: &mut TargetCache,
     start: u16,
     end: u16,
 ) -> u16
     requires well_formed { IsWellFormed board.old }
     requires fits { S.fits move_test.now R.rule board.old }
-    requires kept { IsTargetCacheOf R.rule board.old (S.test R.rule board.old) kept.old }
+    requires cache { IsTargetCacheOf R.rule board.old (S.test R.rule board.old) cache.old }
     requires end { end ≤ all_triples }
     ensures low { result < end → start ≤ result }
     ensures high { result ≤ end }
     ensures none { NoneMeet (S.test R.rule board.old) start result }
     ensures meets { result < end → S.test R.rule board.old (triple_at result) ≡ true }
-    ensures kept { IsTargetCacheOf R.rule board.old (S.test R.rule board.old) kept.new }
+    ensures cache { IsTargetCacheOf R.rule board.old (S.test R.rule board.old) cache.new }
     ensures board { board.new ≡ board.old }
 {
     let origins = move_test.origins::<R>(board);
@@ -213,10 +213,10 @@ pub(crate) fn next_met<R: Rules, S: MoveTest>(
         if first >= end {
             return end;
         }
-        *kept = keep::<R, S>(board, move_test, *kept, from);
+        *cache = cache_for::<R, S>(board, move_test, *cache, from);
         let begin = start.saturating_sub(first);
         let limit = (end - first).min(PER_ORIGIN);
-        let at = next_of_man::<R, S>(board, move_test, from, kept.squares, begin, limit);
+        let at = next_of_man::<R, S>(board, move_test, from, cache.squares, begin, limit);
         if at < PER_ORIGIN {
             return first + at;
         }

@@ -55,10 +55,10 @@ impl<R: Rules> Moves<R> {
         ensures onward { IfSome result (λ m. self.old < self.new) }
         ensures board { board.new ≡ board.old }
     {
-        let mut moves = LegalCursor::<R>::of(board);
-        moves.go_to(self.place);
-        let found = moves.next(board);
-        self.place = moves.place();
+        let mut cursor = LegalCursor::<R>::of(board);
+        cursor.go_to(self.place);
+        let found = cursor.next(board);
+        self.place = cursor.place();
         found
     }
 }
@@ -70,8 +70,8 @@ pub fn has_legal_move<R: Rules>(board: &mut Board) -> bool
     ensures answer { result ≡ not (is_nil (moves R.rule board.old)) }
     ensures board { board.new ≡ board.old }
 {
-    let mut place = LegalCursor::<R>::of(board);
-    place.next(board).is_some()
+    let mut cursor = LegalCursor::<R>::of(board);
+    cursor.next(board).is_some()
 }
 
 /// Returns whether the side to move is mated: in check and without a legal move (FIDE Laws 5.1.1). The
@@ -107,9 +107,9 @@ pub fn nth_move<R: Rules>(board: &mut Board, number: u32) -> Option<Move>
     ensures answer { result ≡ slice_get (moves R.rule board.old) number }
     ensures board { board.new ≡ board.old }
 {
-    let mut place = Moves::<R>::start();
+    let mut cursor = Moves::<R>::start();
     for _call in 0..number {
-        let _earlier = place.next(board);
+        let _earlier = cursor.next(board);
     }
-    place.next(board)
+    cursor.next(board)
 }

@@ -17,7 +17,7 @@ use chess_core::{Board, Kind, Move, Square, Squares};
 // What the search for legal moves of men other than the king knows of a position.
 #[derive(Clone, Copy)]
 struct Others {
-    known: LegalityMasks,
+    masks: LegalityMasks,
 }
 
 impl MoveTest for Others {
@@ -27,18 +27,18 @@ impl MoveTest for Others {
 
     ghost test = { λ rule p. is_legal_and rule p (is_of_others p) };
 
-    ghost fits = { λ s rule p. IsKnownIn rule p s.known };
+    ghost fits = { λ s rule p. IsKnownIn rule p s.masks };
 
     fn origins<R: Rules>(&self, board: &Board) -> Squares {
         origins_of_others::<R>(board)
     }
 
     fn candidates<R: Rules>(&self, board: &Board, from: Square) -> Squares {
-        candidates_of_others::<R>(board, self.known, from)
+        candidates_of_others::<R>(board, self.masks, from)
     }
 
     fn meets<R: Rules>(&self, board: &mut Board, m: Move) -> bool {
-        is_legal_of_others::<R>(board, self.known, m)
+        is_legal_of_others::<R>(board, self.masks, m)
     }
 
     ghost idle = { λ rule p m h. is_legal_and-idle rule p (is_of_others p) m h };
@@ -55,25 +55,25 @@ fn origins_of_others<R: Rules>(board: &Board) -> Squares
 
 // Returns a superset of the squares to which the man on `from` has a legal move.
 #[tactic(auto, using(crate::proofs::listing_moves::OtherMoves::other_candidates))]
-fn candidates_of_others<R: Rules>(board: &Board, known: LegalityMasks, from: Square) -> Squares
+fn candidates_of_others<R: Rules>(board: &Board, masks: LegalityMasks, from: Square) -> Squares
     requires well_formed { IsWellFormed board.now }
-    requires known { IsKnownIn R.rule board.now known }
+    requires masks { IsKnownIn R.rule board.now masks }
     ensures { AreCandidates R.rule board.now
         (is_legal_and R.rule board.now (is_of_others board.now)) from result }
 {
-    candidates::<R>(board, known.evasion_squares, from)
+    candidates::<R>(board, masks.evasion_squares, from)
 }
 
 // Returns whether the move is legal and not the king's. The board is unchanged.
 #[tactic(auto, using(crate::proofs::listing_moves::OtherMoves::is_other))]
-fn is_legal_of_others<R: Rules>(board: &mut Board, known: LegalityMasks, m: Move) -> bool
+fn is_legal_of_others<R: Rules>(board: &mut Board, masks: LegalityMasks, m: Move) -> bool
     requires well_formed { IsWellFormed board.old }
     requires aimed { IsAimed R.rule board.old m }
-    requires known { IsKnownIn R.rule board.old known }
+    requires masks { IsKnownIn R.rule board.old masks }
     ensures answer { result ≡ is_legal_and R.rule board.old (is_of_others board.old) m }
     ensures board { board.new ≡ board.old }
 {
-    is_legal::<R>(board, known.blocker_squares, known.evasion_squares, m)
+    is_legal::<R>(board, masks.blocker_squares, masks.evasion_squares, m)
         && !contains(board.squares(board.turn(), Kind::King), m.from)
 }
 
@@ -85,7 +85,7 @@ pub fn others_have_move<R: Rules>(board: &mut Board) -> bool
     ensures board { board.new ≡ board.old }
 {
     let others = Others {
-        known: legality_masks::<R>(board),
+        masks: legality_masks::<R>(board),
     };
     Cursor::<R, Others>::over(others).next(board).is_some()
 }

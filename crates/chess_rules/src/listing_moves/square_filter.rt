@@ -64,23 +64,23 @@ pub struct NextKept {
     pub skipped: u16,
 }
 
-// Returns the candidate squares of the man on `from`: the exact squares of its legal moves if the filter
-// knows them.
-fn known_candidates<R: Rules, S: SquareFilter>(
+// Returns the candidate squares of the man on `from`, and whether its move to each is known to be legal: it
+// is if the filter knows the exact squares of its legal moves.
+fn candidates_with_legality<R: Rules, S: SquareFilter>(
     board: &Board,
     square_filter: &S,
-    known: LegalityMasks,
+    masks: LegalityMasks,
     from: Square,
 ) -> Candidates
     requires well_formed { IsWellFormed board.now }
-    requires known { IsKnownIn R.rule board.now known }
+    requires masks { IsKnownIn R.rule board.now masks }
     requires fits { S.fits square_filter.now R.rule board.now }
     ensures { AreKnownCandidates R.rule board.now from result }
 {
-    let squares = candidates::<R>(board, known.evasion_squares, from);
+    let squares = candidates::<R>(board, masks.evasion_squares, from);
     match square_filter.legal_squares::<R>(board, from, squares) {
-        Some(reported) => Candidates {
-            squares: reported,
+        Some(exact) => Candidates {
+            squares: exact,
             legality: Legality::Sure,
         },
         None => Candidates {
@@ -116,13 +116,13 @@ fn kept_candidates<R: Rules, S: SquareFilter>(
 // unchanged.
 pub(crate) fn first_kept<R: Rules, S: SquareFilter>(
     board: &mut Board,
-    known: LegalityMasks,
+    masks: LegalityMasks,
     square_filter: &mut S,
     start: u16,
     skipped: &mut u16,
 ) -> u16
     requires well_formed { IsWellFormed board.old }
-    requires known { IsKnownIn R.rule board.old known }
+    requires masks { IsKnownIn R.rule board.old masks }
     requires fits { S.fits square_filter.old R.rule board.old }
     requires none { skipped.old ≡ 0 }
     ensures low { result < all_triples → start ≤ result }
@@ -138,11 +138,11 @@ pub(crate) fn first_kept<R: Rules, S: SquareFilter>(
     let mut rest = squares_from(origins, (start / PER_ORIGIN) as u8);
     while let Some(from) = pop_first(&mut rest) {
         let first = u16::from(from.index()) * PER_ORIGIN;
-        let given = known_candidates::<R, S>(board, square_filter, known, from);
+        let given = candidates_with_legality::<R, S>(board, square_filter, masks, from);
         let kept = kept_candidates::<R, S>(board, square_filter, from, given.squares);
         let begin = start.saturating_sub(first);
-        let at = next_of_man::<R, LegalityMasks>(board, &known, from, kept, begin, PER_ORIGIN);
-        *skipped += count_origin::<R>(board, known, given, from, begin, at);
+        let at = next_of_man::<R, LegalityMasks>(board, &masks, from, kept, begin, PER_ORIGIN);
+        *skipped += count_origin::<R>(board, masks, given, from, begin, at);
         if at < PER_ORIGIN {
             return first + at;
         }
@@ -153,18 +153,18 @@ pub(crate) fn first_kept<R: Rules, S: SquareFilter>(
 // Returns whether the filter removes a legal move of the man on `from`. The board is unchanged.
 fn removes_some<R: Rules, S: SquareFilter>(
     board: &mut Board,
-    known: LegalityMasks,
+    masks: LegalityMasks,
     square_filter: &mut S,
     from: Square,
 ) -> bool
     requires well_formed { IsWellFormed board.old }
-    requires known { IsKnownIn R.rule board.old known }
+    requires masks { IsKnownIn R.rule board.old masks }
     requires fits { S.fits square_filter.old R.rule board.old }
     ensures fails { result ≡ true → SomeFails R.rule board.old (S.test R.rule board.old) }
     ensures same { square_filter.new ≡ square_filter.old }
     ensures board { board.new ≡ board.old }
 {
-    let given = known_candidates::<R, S>(board, square_filter, known, from);
+    let given = candidates_with_legality::<R, S>(board, square_filter, masks, from);
     let removed = given.squares
         & !kept_candidates::<R, S>(board, square_filter, from, given.squares);
     if removed == 0 {
@@ -173,7 +173,7 @@ fn removes_some<R: Rules, S: SquareFilter>(
     match given.legality {
         Legality::Sure => true,
         Legality::Open => {
-            next_of_man::<R, LegalityMasks>(board, &known, from, removed, 0, PER_ORIGIN)
+            next_of_man::<R, LegalityMasks>(board, &masks, from, removed, 0, PER_ORIGIN)
                 < PER_ORIGIN
         }
     }
@@ -182,12 +182,12 @@ fn removes_some<R: Rules, S: SquareFilter>(
 // Returns whether the filter removes a legal move of a man on one of `origins`. The board is unchanged.
 pub(crate) fn some_removed<R: Rules, S: SquareFilter>(
     board: &mut Board,
-    known: LegalityMasks,
+    masks: LegalityMasks,
     square_filter: &mut S,
     origins: Squares,
 ) -> bool
     requires well_formed { IsWellFormed board.old }
-    requires known { IsKnownIn R.rule board.old known }
+    requires masks { IsKnownIn R.rule board.old masks }
     requires fits { S.fits square_filter.old R.rule board.old }
     ensures fails { result ≡ true → SomeFails R.rule board.old (S.test R.rule board.old) }
     ensures same { square_filter.new ≡ square_filter.old }
@@ -195,7 +195,7 @@ pub(crate) fn some_removed<R: Rules, S: SquareFilter>(
 {
     let mut rest = origins;
     while let Some(from) = pop_first(&mut rest) {
-        if removes_some::<R, S>(board, known, square_filter, from) {
+        if removes_some::<R, S>(board, masks, square_filter, from) {
             return true;
         }
     }

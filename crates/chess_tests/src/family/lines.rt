@@ -27,6 +27,7 @@ fn front(draw: &mut Draw, kinds: Kinds, colour: Colour) -> Man {
     man(colour, draw.kind(kinds))
 }
 
+// Returns a position with a king of the mover and enemy batteries on lines to it.
 pub(crate) fn pins(draw: &mut Draw) -> Diagram {
     let mut diagram = board(draw);
     let kinds = draw.kinds();
@@ -41,6 +42,7 @@ pub(crate) fn pins(draw: &mut Draw) -> Diagram {
     diagram
 }
 
+// Returns a position with the other king and batteries of the mover on lines to it.
 pub(crate) fn batteries(draw: &mut Draw) -> Diagram {
     let mut diagram = board(draw);
     let kinds = draw.kinds();
@@ -59,6 +61,7 @@ pub(crate) fn batteries(draw: &mut Draw) -> Diagram {
     diagram
 }
 
+// Returns a position with a double check, or one where the mover may give one.
 pub(crate) fn double_checks(draw: &mut Draw) -> Diagram {
     let mut diagram = board(draw);
     let kinds = draw.kinds();

@@ -289,6 +289,7 @@ const FAIRY: [Row<'static>; 2] = [
     ),
 ];
 
+// Asserts of each row that no position differs, and that each motif is shown often enough.
 fn agree(rt: &impl Abort, rows: &[Row]) {
     for (name, rules, family, count, motifs, least) in rows {
         for rule in *rules {

@@ -9,7 +9,7 @@ decreases-can_hold l = l.unheld
 
 abbrev pub invariant-loop-i : goal.invariant-loop-i
 invariant-loop-i l = record {
-  size : length l.left ≡ 8;
+  size : length l.narrowed_posts ≡ 8;
   kept : (men : List (Option Man)) (ends : Ends) → Holds l.quest men l.posts l.unheld l.ours l.theirs ends
-      → Holds l.quest men l.left l.unheld l.spare l.theirs ends × ((m : ℕ) → m < l.i → DoesHold l.quest ends l.square m → ⊥);
+      → Holds l.quest men l.narrowed_posts l.unheld l.spare l.theirs ends × ((m : ℕ) → m < l.i → DoesHold l.quest ends l.square m → ⊥);
 }

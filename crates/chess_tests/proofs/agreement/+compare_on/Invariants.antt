@@ -12,4 +12,4 @@ invariant-loop-m g l = l.board ≡ l.fn.board
 
 -- fewer legal moves are still to come
 abbrev pub decreases-loop-m : goal.decreases-loop-m
-decreases-loop-m g l = length (moves_after g.R.Rules.rule l.fn.board l.place)
+decreases-loop-m g l = length (moves_after g.R.Rules.rule l.fn.board l.cursor)

@@ -2,6 +2,6 @@ use Rattle.std.proofs.Common.{◌≡◌}
 use Rattle.chess_rules.specs.ties.Places.{IsPlaceIn}
 use Rattle.chess_tests.proofs.compared.gives_until.Given as goal
 
--- the board stays, and the place is one in its legal moves
+-- the board stays, and the cursor is one over its legal moves
 abbrev pub invariant-loop-number : goal.invariant-loop-number
-invariant-loop-number g l = (l.board ≡ l.fn.board) × IsPlaceIn g.R.Rules.rule l.fn.board l.place
+invariant-loop-number g l = (l.board ≡ l.fn.board) × IsPlaceIn g.R.Rules.rule l.fn.board l.cursor

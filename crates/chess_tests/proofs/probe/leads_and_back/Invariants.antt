@@ -9,4 +9,4 @@ invariant-loop-m g l = l.board ≡ position_of l.fn.diagram
 
 -- fewer legal moves are still to come
 abbrev pub decreases-loop-m : goal.decreases-loop-m
-decreases-loop-m g l = length (moves_after g.R.Rules.rule (position_of l.fn.diagram) l.place)
+decreases-loop-m g l = length (moves_after g.R.Rules.rule (position_of l.fn.diagram) l.cursor)

@@ -13,28 +13,28 @@ returns-else-contains c = record { left = λ b small off there. absurd (false≢
 
 pub returns-in_default-next_bit : goal.returns-in_default-next_bit
 returns-in_default-next_bit c =
-    let left = c.left_squares-left in
+    let remaining = c.left_squares-remaining in
     let f = c.in-Some.first in
-    let first = find_first (λ s. bit_at left.result s == 1) 0 64 f (sym c.next_bit.ensures.value ∙ c.in-Some.is) in
+    let first = find_first (λ s. bit_at remaining.result s == 1) 0 64 f (sym c.next_bit.ensures.value ∙ c.in-Some.is) in
     record {
       left = λ b small off there. (
         f,
-        left.ensures f (omega (arith, first.high)) first.here,
+        remaining.ensures f (omega (arith, first.high)) first.here,
         λ e. false≢true (sym off ∙ word_has (λ q. is_square (Some f) q) _ b c.only-in_default-next_bit.ensures small ∙ eq-eqb f b e),
       );
     }
 
 pub returns : goal.returns
 returns c =
-    let left = c.left_squares-left in
+    let remaining = c.left_squares-remaining in
     let f = c.in-Some.first in
     let g = c.in-Some-next_bit._second in
-    let first = find_first (λ s. bit_at left.result s == 1) 0 64 f (sym c.next_bit.ensures.value ∙ c.in-Some.is) in
-    let second = find_first (λ s. bit_at left.result s == 1) (f + 1) (64 - (f + 1)) g
+    let first = find_first (λ s. bit_at remaining.result s == 1) 0 64 f (sym c.next_bit.ensures.value ∙ c.in-Some.is) in
+    let second = find_first (λ s. bit_at remaining.result s == 1) (f + 1) (64 - (f + 1)) g
     (rw c.index.ensures.value at (sym c.next_bit-2.ensures.value ∙ c.in-Some-next_bit.is)) in
     record {
       left = λ b small off there. elim (cases_eq f b) [
-        | inl e ↦ (g, left.ensures g (omega (arith, second.high, second.low, first.high)) second.here, λ same. omega (arith, second.low, e, same))
-        | inr ne ↦ (f, left.ensures f (omega (arith, first.high)) first.here, ne)
+        | inl e ↦ (g, remaining.ensures g (omega (arith, second.high, second.low, first.high)) second.here, λ same. omega (arith, second.low, e, same))
+        | inr ne ↦ (f, remaining.ensures f (omega (arith, first.high)) first.here, ne)
       ];
     }

@@ -13,9 +13,9 @@ returns c = λ a b t inside small off low on there.
     let guards = c.guards_without-guards in
     let seen = guards.result.guarded in
     let watched = c.watched_squares-watched in
-    let left = c.uncaptured_squares-left in
+    let uncaptured = c.uncaptured_squares-uncaptured in
     let at = unguarded_at c.args.king_attack.now g c.args.from o guards.result a guards.ensures off.lines in
-    elim (cases_Bool (bit_at left.result t == 1)) [
+    elim (cases_Bool (bit_at uncaptured.result t == 1)) [
       | inl left_on ↦ inr (inr (λ z becomes.
           let going = c.critical_of_going.ensures t low left_on z (c.may_become_fairy.ensures c.if-may_become_fairy.false t low left_on z becomes) in
           let one = going.2.left b small off.critical there in
@@ -31,7 +31,7 @@ returns c = λ a b t inside small off low on there.
           })))
       | inr free ↦ elim (cases_Bool (bit_at watched.result t == 1)) [
         | inl on ↦
-            let taken = left.ensures t low on free in
+            let taken = uncaptured.ensures t low on free in
             inr (inl (record { on = taken.0; unguarded = at t (on_left _ o t (on_right g.near g.captures t taken.0)) taken.1 }))
         | inr none ↦
             let small : g.king < 64 = omega (arith, c.show_below_64.ensures) in

@@ -5,5 +5,5 @@ use Rattle.chess_rules.proofs.listing_moves.counting.count_origin.Goals as goal
 pub returns-then-end-eq-PER_ORIGIN-clause-count : goal.returns-then-end-eq-PER_ORIGIN-clause-count
 returns-then-end-eq-PER_ORIGIN-clause-count g c = grind (arith, count_whole)
 
-pub returns-then-are_known_legal-clause-count : goal.returns-then-are_known_legal-clause-count
-returns-then-are_known_legal-clause-count g c = grind (arith, count_by_word)
+pub returns-then-need_no_test-clause-count : goal.returns-then-need_no_test-clause-count
+returns-then-need_no_test-clause-count g c = grind (arith, count_by_word)

@@ -6,20 +6,20 @@ pub loop-from-init : goal.loop-from-init
 loop-from-init g c = search (rules, walk_begins)
 
 pub next_of_man-at-requires-clause-squares : goal.next_of_man-at-requires-clause-squares
-next_of_man-at-requires-clause-squares g c = let are = c.keep.ensures.kept.are _ c.keep.ensures.origin in search rules
+next_of_man-at-requires-clause-squares g c = let are = c.cache_for.ensures.cache.are _ c.cache_for.ensures.origin in search rules
 
 pub returns-then-at-lt-PER_ORIGIN-clause-none : goal.returns-then-at-lt-PER_ORIGIN-clause-none
 returns-then-at-lt-PER_ORIGIN-clause-none g c =
-    let kept = rw c.loop-from.invariant.board at c.keep.ensures.kept in
+    let cache = rw c.loop-from.invariant.board at c.cache_for.ensures.cache in
     walk_to _ _ _ _ _ _ _ _ c.loop-from.invariant.walked c.in-Some.ensures.taken (omega (arith, c.from-first.ensures, c.index.ensures.value))
     c.saturating_sub-begin.ensures
-    (none-to _ _ _ _ _ _ _ _ (omega arith) (kept.are _ c.keep.ensures.origin) (λ m h. h) (rw c.loop-from.invariant.board at c.next_of_man-at.ensures.first.none))
+    (none-to _ _ _ _ _ _ _ _ (omega arith) (cache.are _ c.cache_for.ensures.origin) (λ m h. h) (rw c.loop-from.invariant.board at c.next_of_man-at.ensures.first.none))
 
 pub loop-from-preserved : goal.loop-from-preserved
 loop-from-preserved g c =
-    let kept = rw c.loop-from.invariant.board at c.keep.ensures.kept in
+    let cache = rw c.loop-from.invariant.board at c.cache_for.ensures.cache in
     let past = walk_on _ _ _ _ _ _ _ _ c.loop-from.invariant.walked c.in-Some.ensures.taken (omega (arith, c.from-first.ensures, c.index.ensures.value))
     c.saturating_sub-begin.ensures
-    (none-to _ _ _ _ _ _ _ _ (omega arith) (kept.are _ c.keep.ensures.origin) (λ m h. h) (rw c.loop-from.invariant.board at c.next_of_man-at.ensures.first.none))
+    (none-to _ _ _ _ _ _ _ _ (omega arith) (cache.are _ c.cache_for.ensures.origin) (λ m h. h) (rw c.loop-from.invariant.board at c.next_of_man-at.ensures.first.none))
     (omega (arith, c.next_of_man-at.ensures.first.high, c.min-limit.ensures)) in
-    record { board = c.next_of_man-at.ensures.board ∙ c.loop-from.invariant.board; walked = search (rules, past); kept = kept }
+    record { board = c.next_of_man-at.ensures.board ∙ c.loop-from.invariant.board; walked = search (rules, past); cache = cache }

@@ -6,7 +6,7 @@ abbrev pub invariant-loop-from : goal.invariant-loop-from
 invariant-loop-from g l = record {
   board : l.board ≡ l.fn.board;
   walked : IsWalked (g.S.MoveTest.test g.R.Rules.rule l.fn.board) l.fn.start l.rest;
-  kept : IsTargetCacheOf g.R.Rules.rule l.fn.board (g.S.MoveTest.test g.R.Rules.rule l.fn.board) l.kept;
+  cache : IsTargetCacheOf g.R.Rules.rule l.fn.board (g.S.MoveTest.test g.R.Rules.rule l.fn.board) l.cache;
 }
 
 abbrev pub decreases-loop-from : goal.decreases-loop-from

@@ -11,7 +11,7 @@ loop-call-preserved g c =
     let rest = rw c.loop-call.invariant.board at c.next-earlier.ensures.rest in
     record {
       board = c.next-earlier.ensures.board ∙ c.loop-call.invariant.board;
-      place = step_on g.R.Rules.rule c.args.board.now c.loop-call._call c.loop-call.place c.next-earlier.new.self c.next-earlier.result
+      place = step_on g.R.Rules.rule c.args.board.now c.loop-call._call c.loop-call.cursor c.next-earlier.new.self c.next-earlier.result
           c.loop-call.invariant.place c.next-earlier.ensures.place rest;
     }
 
@@ -20,4 +20,4 @@ returns-clause-answer g c =
     let all : c.loop-call._call ≡ c.args.number = omega arith in
     let rest = rw c.loop-call.invariant.board at c.next.ensures.rest in
     let at = rw all at c.loop-call.invariant.place in
-    answer_is g.R.Rules.rule c.args.board.now c.args.number c.loop-call.place c.next.new.self c.next.result at rest
+    answer_is g.R.Rules.rule c.args.board.now c.args.number c.loop-call.cursor c.next.new.self c.next.result at rest

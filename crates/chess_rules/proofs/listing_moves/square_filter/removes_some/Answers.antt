@@ -6,11 +6,11 @@ use Rattle.chess_rules.proofs.listing_moves.square_filter.removes_some.Goals as 
 
 pub next_of_man-requires-clause-squares : goal.next_of_man-requires-clause-squares
 next_of_man-requires-clause-squares g c =
-    removed_candidates _ _ (g.S.SquareFilter.test g.R.Rules.rule c.args.board.now) _ _ _ c.known_candidates-given.ensures.candidates
+    removed_candidates _ _ (g.S.SquareFilter.test g.R.Rules.rule c.args.board.now) _ _ _ c.candidates_with_legality-given.ensures.candidates
 
 pub returns-in-Sure-clause-fails : goal.returns-in-Sure-clause-fails
 returns-in-Sure-clause-fails g c = λ yes.
-    sure_fails _ _ _ _ _ _ (omega arith) c.kept_candidates.ensures.wanted (c.known_candidates-given.ensures.legal c.in-Sure.is) (omega arith) (omega arith)
+    sure_fails _ _ _ _ _ _ (omega arith) c.kept_candidates.ensures.wanted (c.candidates_with_legality-given.ensures.legal c.in-Sure.is) (omega arith) (omega arith)
 
 pub returns-in-Open-clause-fails : goal.returns-in-Open-clause-fails
 returns-in-Open-clause-fails g c = λ yes.

@@ -1,6 +1,6 @@
 use Rattle.std.proofs.Common.{subst, ◌<◌}
 use Rattle.chess_reach.proofs.Bitboards.{cleared, fewer, on_first}
-use Rattle.chess_reach.proofs.hold.taken_from.Goals as goal
+use Rattle.chess_reach.proofs.hold.without.Goals as goal
 
 pub returns-clause-gone : goal.returns-clause-gone
 returns-clause-gone c =

@@ -1,6 +1,6 @@
 use Rattle.chess_threats.proofs.Chess.{ThreatsSeen, ap, arith, refl, rules}
 use Rattle.chess_threats.proofs.Ways.{flightless_are_risky, needed_are_risky}
-use Rattle.chess_threats.proofs.kept_flights.KeptFlights.unkept_squares.Goals as goal
+use Rattle.chess_threats.proofs.kept_flights.KeptFlights.risky_squares.Goals as goal
 
 pub returns-then-ne : goal.returns-then-ne
 returns-then-ne g c =
