@@ -8,8 +8,8 @@
 //! }
 //! ```
 //!
-//! The interface is `Event`, `Phase`, `TryEvent`, `Shown`, `Mark` and `Side`. `specs/Shown.antt` defines what is shown of
-//! a move.
+//! The interface is `Event`, `Phase`, `TryEvent`, `Shown`, `Mark` and `Side`. `specs/Shown.antt` defines what is shown
+//! of a move.
 #![tactic(auto)]
 
 pub mod event;

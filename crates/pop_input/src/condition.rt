@@ -12,8 +12,9 @@ pub enum Condition {
     Madrasi,
 }
 
-/// Calls a function under the rules of a condition: `under_condition!(condition, f::<_, T>(a, b))` calls `f::<R, T>(a, b)`,
-/// where `R` is the type of these rules. `f` requires `R.rule` to be `rule_of condition`, so each call proves the choice.
+/// Calls a function under the rules of a condition: `under_condition!(condition, f::<_, T>(a, b))` calls
+/// `f::<R, T>(a, b)`, where `R` is the type of these rules. `f` requires `R.rule` to be `rule_of condition`, so each
+/// call proves the choice.
 #[macro_export]
 macro_rules! under_condition {
     ($condition:expr, $function:ident::<_ $(, $other:ty)*>($($argument:expr),*)) => {

@@ -96,6 +96,7 @@ fn begins(name: &[u8], word: &[u8]) -> bool
     true
 }
 
+// Returns the section that the word opens, in full or as a short form.
 #[tactic(auto, unfolding(crate::specs::Names::section_of))]
 fn section_of(word: &[u8]) -> Option<Section>
     ensures { result ≡ section_of word.now }
@@ -165,6 +166,8 @@ pub(crate) fn condition_of(word: &[u8]) -> Option<Condition>
     }
 }
 
+// Returns the value that the option expects after it, if the word is MaxSolutions, EnPassant or NoCastling, in full or
+// as a short form.
 #[tactic(auto, unfolding(crate::specs::Names::expected_of))]
 fn expected_of(word: &[u8]) -> Option<ExpectedValue>
     ensures { result ≡ expected_of word.now }

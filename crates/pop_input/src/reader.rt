@@ -205,6 +205,7 @@ fn closing_of(command: Option<Command>) -> Option<Last>
     }
 }
 
+// Returns what the reader does after an item: nothing more after the last, or it goes on to the next problem.
 fn next_after(last: Last) -> Next
     ensures { result ≡ following last }
 {
@@ -225,6 +226,7 @@ fn item_of_cut(fault: Option<Fault>, cut: ReadFault) -> (Fault, Last)
     }
 }
 
+// Returns the fault that says why the input is cut, with its line.
 fn fault_of_cut(cut: ReadFault) -> Fault
     ensures { result ≡ cut_fault cut }
 {

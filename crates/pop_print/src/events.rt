@@ -61,8 +61,9 @@ fn print_line<W: Sink>(sink: &mut W, half: u32, moves: &[Shown]) -> Result<(), S
     line.put(sink)
 }
 
-/// Writes a move of battle play that has `depth` moves above it, and the line's ending after it. No move of a problem has
-/// more than 64 blanks before it. The code for more blanks is for the prover alone, since `depth` may be any number.
+/// Writes a move of battle play that has `depth` moves above it, and the line's ending after it. No move of a problem
+/// has more than 64 blanks before it. The code for more blanks is for the prover alone, since `depth` may be any
+/// number.
 ///
 /// # Errors
 ///
@@ -88,6 +89,7 @@ pub(crate) fn print_node<W: Sink>(
     line.put(sink)
 }
 
+// Writes `count` blanks, one by one.
 fn put_blanks<W: Sink>(sink: &mut W, count: u64) -> Result<(), SinkFault>
     requires { W.failures sink.old < greatest_count }
     ensures bytes { Writes (W.taken sink.old) (W.taken sink.new) (replicate count blank) result }
@@ -135,6 +137,7 @@ pub(crate) fn print_count<W: Sink>(
     line.put(sink)
 }
 
+// Returns the ending of a total: whether the limit of solutions stopped the phase, and the line end.
 fn stopped_text(stopped: bool) -> &'static [u8]
     ensures text { result.now ≡ text_of_stopped stopped }
     ensures short { length result.now ≤ 10 }
@@ -226,6 +229,7 @@ impl<const N: usize> LineBuffer<N> {
         self.add(ending);
     }
 
+    // Adds `count` blanks.
     fn add_blanks(&mut self, count: u64)
         requires { length self.old + count ≤ N }
         ensures { self.new ≡ self.old ++ replicate count blank }

@@ -28,6 +28,7 @@ pub fn print_fault<W: Sink>(sink: &mut W, number: u64, fault: &Fault) -> Result<
 }
 
 impl<const N: usize> LineBuffer<N> {
+    // Adds the text of a faulty item.
     #[tactic(auto, unfolding(crate::specs::Faults::fault_text))]
     fn add_fault(&mut self, number: u64, fault: &Fault)
         requires { length self.old + FAULT ≤ N }

@@ -79,6 +79,7 @@ pub fn print_checked<W: Sink>(
 }
 
 impl<const N: usize> LineBuffer<N> {
+    // Adds the head: the lines from the item's number to the stipulation.
     #[tactic(auto, unfolding(crate::specs::Heads::head_text))]
     fn add_head(&mut self, number: u64, problem: &Problem, no_board: bool)
         requires { length self.old + HEAD ≤ N }
@@ -150,6 +151,7 @@ impl<const N: usize> LineBuffer<N> {
         }
     }
 
+    // Adds the board, or nothing if it is left out.
     fn add_board_unless(&mut self, left_out: bool, diagram: &Diagram)
         requires { length self.old + BOARD ≤ N }
         ensures text { self.new ≡ self.old
@@ -235,6 +237,7 @@ fn half_text(form: Form) -> &'static [u8]
     }
 }
 
+// Returns the condition's name after a blank, or nothing if there is none.
 fn condition_text(condition: Option<Condition>) -> &'static [u8]
     ensures text { result.now ≡ text_of_condition condition }
     ensures short { length result.now ≤ 8 }
@@ -246,6 +249,7 @@ fn condition_text(condition: Option<Condition>) -> &'static [u8]
     }
 }
 
+// Returns whether the board is left out, by the setting or by the problem's option NoBoard.
 fn is_left_out(no_board: bool, problem: &Problem) -> bool
     ensures { result ≡ no_board || problem.now.no_board }
 {
@@ -274,6 +278,7 @@ fn rank_line(diagram: &Diagram, rank: u8) -> [u8; RANK]
     ]
 }
 
+// Returns the character of a square on the board: the letter of its man, or a point. `number` is the square's.
 fn cell(diagram: &Diagram, number: u8) -> u8
     requires { number < 64 }
     ensures { result ≡ letter_on (man_on diagram.now.men number) }

@@ -12,8 +12,8 @@
 //! ```
 //!
 //! The interface is `print_head`, `print_event`, `print_try_event`, `print_fault` and `print_checked`, and the module
-//! `line`, which pop_parts uses too. Each function puts whole lines together in a buffer of fixed size and then hands them to the
-//! sink. No call allocates. `specs/` define the texts, one file for each module.
+//! `line`, which pop_parts uses too. Each function puts whole lines together in a buffer of fixed size and then hands
+//! them to the sink. No call allocates. `specs/` define the texts, one file for each module.
 #![tactic(auto)]
 
 mod events;

@@ -14,6 +14,7 @@ pub(crate) const MOVE: usize = PLAIN_MOVE + 1;
 // The most bytes of a move without its mark (own).
 const PLAIN_MOVE: usize = 19;
 
+// Returns the text of castling towards the h side or the a side.
 fn castling_text(side: Side) -> &'static [u8]
     ensures text { result.now ≡ text_of_castling side }
     ensures short { length result.now ≤ 5 }
@@ -24,12 +25,14 @@ fn castling_text(side: Side) -> &'static [u8]
     }
 }
 
+// Returns what comes between origin and arrival: `*` for a capture, `-` for another move.
 fn step_text(capture: bool) -> u8
     ensures { result ∷ [] ≡ text_of_step capture }
 {
     if capture { b'*' } else { b'-' }
 }
 
+// Returns the sign of mate, stalemate or check, or nothing.
 fn mark_text(mark: Mark) -> &'static [u8]
     ensures text { result.now ≡ text_of_mark mark }
     ensures short { length result.now ≤ 1 }
@@ -42,6 +45,7 @@ fn mark_text(mark: Mark) -> &'static [u8]
     }
 }
 
+// Returns ` ep.` for an en passant capture, and nothing for another move.
 fn en_passant_text(ep: bool) -> &'static [u8]
     ensures text { result.now ≡ text_of_en_passant ep }
     ensures short { length result.now ≤ 4 }
@@ -79,6 +83,7 @@ impl<const N: usize> LineBuffer<N> {
         self.add_rebirth(shown.rebirth);
     }
 
+    // Adds `=` and the letter of the kind that a pawn becomes, or nothing if it doesn't promote.
     fn add_promotion(&mut self, promo: Option<Kind>)
         requires { length self.old + 2 ≤ N }
         ensures text { self.new ≡ self.old ++ promotion_text promo }
@@ -90,6 +95,7 @@ impl<const N: usize> LineBuffer<N> {
         }
     }
 
+    // Adds the man that is reborn and its square, such as `[+bBc8]`, or nothing if there is none.
     fn add_rebirth(&mut self, rebirth: Option<(Man, Square)>)
         requires { length self.old + 7 ≤ N }
         ensures text { self.new ≡ self.old ++ rebirth_text rebirth }

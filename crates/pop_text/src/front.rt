@@ -269,6 +269,7 @@ pub(crate) fn line_front(view: &[u8]) -> usize
     }
 }
 
+/// Returns whether the byte is a blank or line end.
 pub(crate) fn in_gap(byte: u8) -> bool
     ensures { result ≡ is_gap byte }
 {

@@ -5,8 +5,8 @@ use std::fmt;
 /// Why a scanner returns no word or text line. Each case holds a line, counted from 1. The limits are own.
 #[derive(Clone, Copy, Debug)]
 pub enum ReadFault {
-    /// A word has more than `LONGEST_WORD` bytes. Holds the line on which the word begins. The word is used, and the next call
-    /// continues after it.
+    /// A word has more than `LONGEST_WORD` bytes. Holds the line on which the word begins. The word is used, and the
+    /// next call continues after it.
     TooLong(u64),
     /// A byte after the first 2^30 of the input is needed. Holds the line of that byte. Every later call returns this
     /// fault.

@@ -281,8 +281,8 @@ impl Scanner {
     ///
     /// # Errors
     ///
-    /// `TooLong` if the word has more than `LONGEST_WORD` bytes. `InputTooLong` or `Device` if the limit of the input or a failure
-    /// of the source comes before the end of the word; every later call then returns that fault.
+    /// `TooLong` if the word has more than `LONGEST_WORD` bytes. `InputTooLong` or `Device` if the limit of the input
+    /// or a failure of the source comes before the end of the word; every later call then returns that fault.
     pub fn next_word<S: Source>(&mut self, source: &mut S) -> Result<Option<Word>, ReadFault>
         requires { MayCall self.old.end (S.failures source.old) }
         ensures word { NextWord self.old self.new (S.remaining source.old) (S.remaining source.new)
@@ -337,8 +337,8 @@ impl Scanner {
         }
     }
 
-    /// Returns the rest of the line: its first `LONGEST_TEXT` bytes after leading blanks, without trailing blanks. Uses the line
-    /// end too.
+    /// Returns the rest of the line: its first `LONGEST_TEXT` bytes after leading blanks, without trailing blanks.
+    /// Uses the line end too.
     ///
     /// # Errors
     ///
@@ -411,6 +411,7 @@ fn extend_word(word: &mut ArrayVec<u8, LONGEST_WORD>, part: &[u8]) -> bool
     }
 }
 
+// Appends bytes for which there is room.
 fn extend(word: &mut ArrayVec<u8, LONGEST_WORD>, part: &[u8])
     requires { length word.old.items + length part.now ≤ longest_word }
     ensures { word.new.items ≡ word.old.items ++ part.now }
@@ -421,6 +422,7 @@ fn extend(word: &mut ArrayVec<u8, LONGEST_WORD>, part: &[u8])
     }
 }
 
+// Returns whether the byte ends a line.
 fn ends_line(byte: u8) -> bool
     ensures { result ≡ is_line_end byte }
 {

@@ -66,6 +66,7 @@ impl Text {
         Text::of(&kept)
     }
 
+    // Returns the text of these bytes.
     fn of(bytes: &ArrayVec<u8, LONGEST_TEXT>) -> Text
         ensures { result ≡ bytes.now.items }
     {
@@ -100,6 +101,7 @@ fn keep(kept: &mut ArrayVec<u8, LONGEST_TEXT>, byte: u8)
     }
 }
 
+// Returns whether the byte is a blank.
 fn is_blank_byte(byte: u8) -> bool
     ensures { result ≡ is_blank byte }
 {

@@ -92,6 +92,7 @@ impl Draft {
         None
     }
 
+    // Puts a man on the square, or returns the fault of doing so.
     fn put_man(&mut self, man: Man, square: Square) -> Option<FaultKind>
         ensures fault { result ≡ man_fault self.old.men man square }
         ensures draft { result ≡ None → self.new
@@ -129,6 +130,7 @@ fn is_other_word(text: &[u8]) -> bool
     text.len() >= 2 && !has_digit(text)
 }
 
+// Returns whether the text has a decimal digit.
 fn has_digit(text: &[u8]) -> bool
     ensures { result ≡ list_any is_digit text.now }
 {
