@@ -298,6 +298,7 @@ WRONG = [
     ("#2", "  1...Kg8-f8\n    2.Rb1-b8#", "  1...Kg8-f8", "a defence without a continuation"),
     ("#2", "1.Rh1-h8#", "1.Rh1-h8", "a key without defences"),
     ("#2", "1.Rh1-h8#", "1.Rh1-h8#\n  1...Kg8-h8", "a move below a mate"),
+    ("#3", "1.Rh1-h5", "1.Ra1-b1", "a key twice, without what is below it"),
     ("#3", "1.Rh1-h5", "1.Rh1-h5\n  1...Kg8-h8\n    2.Rb1-b8#", "what is below one key alone"),
     ("s#1", "1.Ra1-b1", "1.Ra1-b1#", "White mates in a selfmate"),
     ("s#1", "  1...Kg8-f8#", "  1...Kg8-f8", "no mate of White"),
@@ -314,22 +315,22 @@ WRONG = [
 
 
 class Strictness(unittest.TestCase):
-    """What pops never writes is refused with its line, by both ways of reading, also after like problems."""
+    """What pops never writes is refused with its line, however it is read, also after like problems."""
 
     def text(self, asked: str, lines: str, board: str = BOARD) -> str:
         count = sum(line[0] != " " for line in lines.split("\n"))
         return f"{board}{asked}\nplay\n{lines}\nsolutions: {count}\n\n"
 
     def refused(self, text: str) -> int:
-        """The line that both ways of reading refuse."""
-        readings = (read_report([text.encode()]), read_events(ReportReader(Allowed.UNFINISHED), [text.encode()]))
-        found = []
-        for reading in readings:
-            with self.assertRaises(ReportError) as refused:
-                list(reading)
-            found.append(refused.exception.line)
-        self.assertEqual(found[0], found[1])
-        return found[0]
+        """The line that each way of reading refuses, of the whole and line by line."""
+        found = set()
+        for pieces in ([text.encode()], text.encode().splitlines(keepends=True)):
+            for reading in (read_report(pieces), read_events(ReportReader(Allowed.UNFINISHED), pieces)):
+                with self.assertRaises(ReportError) as refused:
+                    list(reading)
+                found.add(refused.exception.line)
+        self.assertEqual(len(found), 1)
+        return found.pop()
 
     def test_what_no_problem_shows(self) -> None:
         for asked, old, new, what in WRONG:

@@ -97,6 +97,8 @@ class ReportReader:
         self._detail = Detail.UNKNOWN
         # Whether only the next line shows how deep the trees go.
         self._is_undecided = False
+        # The lines of battle play of this phase that were taken before this was known.
+        self._taken_before: list[bytes] = []
         self._known: dict[Form, KnownNodes] = {}
         self._known_here = KnownNodes(self._form)
         self._help = HelpState()
@@ -341,7 +343,10 @@ class ReportReader:
     def _take_nodes(self, lines_left: list[bytes], at: int, builder: ItemBuilder) -> int:
         """Takes lines of battle play; returns how many."""
         end = self._look_ahead(lines_left, at)
-        return builder.take_known(lines_left, at, end, self._known_here, self._tree)
+        taken = builder.take_known(lines_left, at, end, self._known_here, self._tree)
+        if self._detail is Detail.UNKNOWN:
+            self._taken_before += lines_left[at : at + taken]
+        return taken
 
     def _look_ahead(self, lines_left: list[bytes], at: int) -> int:
         """Finds out how deep the trees go, if the lines from a place on show it; returns the place up to
@@ -369,7 +374,12 @@ class ReportReader:
         """Notes how deep the trees go, by the line after a node that shows it."""
         is_deeper = line.startswith(b"  " * (self._first_levels + 1))
         self._detail = Detail.TO_THE_GOAL if is_deeper else Detail.FIRST_MOVES
+        before = self._known_here
         self._choose_known()
+        for taken in self._taken_before:
+            node, known = before[taken], self._known_here[taken]
+            if node is not None and known is not None:
+                known.parent[0] = node.parent[0]
 
     def _decide(self, line: bytes) -> None:
         """Notes how deep the trees go, if the line before had to show it."""
@@ -410,6 +420,7 @@ class ReportReader:
 
     def _phase(self, kind: items.PhaseKind) -> Sequence[events.Event]:
         self._kind, self._count = kind, 0
+        self._taken_before.clear()
         if self._stipulation.play is Play.HELP:
             form = self._form
             if form not in self._known_moves:
@@ -493,6 +504,8 @@ class ReportReader:
         if node is None or expected is not None:
             raise self.refused(expected or "", line)
         self._tree.add(node)
+        if self._detail is Detail.UNKNOWN:
+            self._taken_before.append(line)
         self._is_undecided = self._shows_detail(node)
         level, text, move = node[:3]
         self._count += level == 0
