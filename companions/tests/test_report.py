@@ -16,7 +16,15 @@ from pops_companions.report.items import (
     named_items,
 )
 from pops_companions.report.moves import Castling, Mark
-from pops_companions.report.reader import Allowed, ReportError, ReportReader, read_events, read_report
+from pops_companions.report.reader import (
+    CUT,
+    Allowed,
+    ReportError,
+    ReportReader,
+    read_events,
+    read_report,
+    read_unfinished_report,
+)
 from tests import support
 
 
@@ -393,6 +401,18 @@ class Strictness(unittest.TestCase):
                 self.refused(right.replace(old, new, 1))
         for wrong in ("fault 11: no man", "fault 12: no men"):
             self.refused(f"problem 1\nline 3: {wrong}\n\n")
+
+    def test_set_play_without_a_total(self) -> None:
+        """Only an unfinished problem may lack it, whatever was read before."""
+        cut = self.text("#1", RIGHT["#1"][0]).replace("#1\n", "#1\nset\n", 1)
+        marked = cut[:-1] + "unfinished: stopped after 1 s\n\n"
+        for end, reason in ((marked, "stopped after 1 s"), (cut[:-1], CUT)):
+            (item,) = read_unfinished_report([f"problem 1\n{end}".encode()])
+            self.assertTrue(isinstance(item, SoundItem) and item.unfinished == reason)
+        for reading, line in ((read_unfinished_report, 16), (read_report, 13)):
+            with self.assertRaises(ReportError) as refused:
+                list(reading([f"problem 1\n{cut}".encode()]))
+            self.assertEqual(refused.exception.line, line)
 
     def test_set_play_without_its_continuations(self) -> None:
         for lines in ("1...Kg8-h8\n", "1...Kg8-h8\n1...Kg8-f8\n  2.Rh1-h8#\n"):

@@ -95,6 +95,8 @@ class ReportReader:
         self._count = 0
         self._tree = TreeState()
         self._detail = Detail.UNKNOWN
+        # Whether the problem goes on after set play without a total, so that it must be unfinished.
+        self._is_set_cut = False
         # Whether only the next line shows how deep the trees go.
         self._is_undecided = False
         # The lines of battle play of this phase that were taken before this was known.
@@ -136,8 +138,8 @@ class ReportReader:
             if self._state != self._problem:
                 raise ReportError(self._line + 1, "the report is cut inside a problem")
         if self._state != self._problem:
-            is_whole = self._state == self._end
-            yield events.EndEvent(self._number, self._unfinished if is_whole else reason)
+            lacks = self._state != self._end or self._is_set_cut and self._unfinished is None
+            yield events.EndEvent(self._number, reason if lacks else self._unfinished)
         self._begun, self._state = b"", self._problem
         # (a reader refers to itself, so that its memory is free only later)
         self._known.clear()
@@ -246,7 +248,9 @@ class ReportReader:
     def _end(self, line: bytes) -> Sequence[events.Event]:
         if line != b"":
             raise self.refused("an empty line", line)
-        self._state = self._problem
+        if self._is_set_cut and self._unfinished is None:
+            raise self.refused("why the problem is unfinished", line)
+        self._state, self._is_set_cut = self._problem, False
         return (events.EndEvent(self._number, self._unfinished),)
 
     def feed_builder(self, data: bytes, builder: ItemBuilder) -> Iterator[items.AnyItem]:
@@ -461,6 +465,7 @@ class ReportReader:
         is_set = self._kind is items.PhaseKind.SET
         if self._allowed is Allowed.UNFINISHED and is_set and line == b"play":
             # (as pops-many writes an unfinished problem of which parts of both phases were solved)
+            self._is_set_cut = True
             return self._play(line)
         total = lines.TOTAL.fullmatch(line)
         if total is not None:
