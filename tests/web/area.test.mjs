@@ -15,7 +15,7 @@ const FEW = 100000;
 fill({ ...sharedParts(), example: TEXT, 'fault-words': '{}', engine: 'AGFzbQEAAAA=' });
 const { element } = await import('../../web/elements.js');
 const { fitPart, followCaret, select, selectionNow, showText, wholeText } = await import('../../web/page/area.js');
-const { changeBoard, goSteps, goToProblem, setText, takeFen, takeText } = await import('../../web/page/editing.js');
+const { changeBoard, goSteps, goToProblem, numberWritten, placed, setText, takeFen, takeText } = await import('../../web/page/editing.js');
 const { drawnFault, faultWork, markFaults } = await import('../../web/page/faults.js');
 const { state, textNow } = await import('../../web/page/state.js');
 const { atOnce } = await import('../../web/slices.js');
@@ -282,6 +282,31 @@ test('reading: what is done with the board of a long text waits until the text i
   }
   // (Kg6, Ra1 and Kg8 can't go to the left; mirrored they are Kb6, Rh1 and Kb8, and then go to the left; the last of these is undone)
   assert.match(textNow().slice(0, 60), /White Kb6 Rh1 Black Kb8/);
+  begin(TEXT);
+}));
+
+test('reading: the board is of the problem that was last gone to, also while a long text is read', () => withSlowClock(pass => {
+  const end = () => {
+    for (let times = 0; state.waiting.length || state.followed !== null; times++) {
+      assert.ok(times < 100000);
+      pass();
+    }
+    return [1, 3].map(number => textNow().split('NextProblem\n')[number - 1].includes('White Kb6 Rh1 Black Kb8'));
+  };
+  const write = () => {
+    element('problemNumber').value = '3';
+    numberWritten();
+  };
+  const click = () => {
+    const at = LONG.indexOf('Title T 3\n');
+    select(at, at);
+    placed();
+  };
+  assert.equal(readsAtOnce(() => [write, () => changeBoard('mirror')].forEach(act => act())), false);
+  assert.deepEqual(end(), [false, true]);
+  assert.equal(readsAtOnce(() => [() => changeBoard('mirror'), click].forEach(act => act())), false);
+  assert.deepEqual(end(), [true, false]);
+  assert.equal(state.number, 3);
   begin(TEXT);
 }));
 

@@ -65,9 +65,11 @@ export function placed() {
 function showPlaced(text) {
   if (textNow() !== text) return;
   const number = blockAt(text, selectionNow().from)?.number ?? 1;
-  if (number === state.number) return;
-  state.choose(number);
-  state.follow();
+  state.inTurn(() => {
+    if (number === state.number) return;
+    state.choose(number);
+    state.follow();
+  });
 }
 
 /**
