@@ -285,6 +285,18 @@ test('reading: what is done with the board of a long text waits until the text i
   begin(TEXT);
 }));
 
+test('reading: a key while a long text is shown leaves the changed text to be read in slices', () => withSlowClock(pass => {
+  assert.equal(readsAtOnce(() => select(14, 14)), false);
+  for (let times = 0; !blocksOf.knows(LONG); times++) {
+    assert.ok(times < 100000);
+    pass();
+  }
+  type('x');
+  pass();
+  assert.equal(blocksOf.knows(textNow()), false);
+  begin(TEXT);
+}));
+
 test('reading: the board is of the problem that was last gone to, also while a long text is read', () => withSlowClock(pass => {
   const end = () => {
     for (let times = 0; state.waiting.length || state.followed !== null; times++) {

@@ -50,6 +50,7 @@ export function typed() {
     state.follow();
   }, TYPING_PAUSE);
   if (textNow().length < LONG_TEXT) state.follow();
+  else state.endFollowing();
   unmarkFaults();
 }
 
