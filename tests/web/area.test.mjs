@@ -322,6 +322,19 @@ test('reading: the board is of the problem that was last gone to, also while a l
   begin(TEXT);
 }));
 
+test('reading: what is saved of a long text has what was done with the board before', async () => {
+  const { createObjectURL, revokeObjectURL } = URL;
+  const saved = [];
+  Object.assign(URL, { createObjectURL: blob => saved.push(blob), revokeObjectURL: () => {} });
+  withSlowClock(pass => {
+    assert.equal(readsAtOnce(() => [() => changeBoard('mirror'), element('outText').onclick].forEach(act => act())), false);
+    for (let times = 0; state.waiting.length || state.followed !== null; times++) pass();
+    begin(TEXT);
+  });
+  Object.assign(URL, { createObjectURL, revokeObjectURL });
+  assert.match((await saved[0].text()).slice(0, 60), /White Kb6 Rh1 Black Kb8/);
+});
+
 test('reading: what waits for a long text isn\'t done with another one', () => withSlowClock(pass => {
   assert.equal(readsAtOnce(() => changeBoard('right')), false);
   takeText(TEXT);
