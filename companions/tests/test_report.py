@@ -409,10 +409,11 @@ class Strictness(unittest.TestCase):
         for end, reason in ((marked, "stopped after 1 s"), (cut[:-1], CUT)):
             (item,) = read_unfinished_report([f"problem 1\n{end}".encode()])
             self.assertTrue(isinstance(item, SoundItem) and item.unfinished == reason)
-        for reading, line in ((read_unfinished_report, 16), (read_report, 13)):
-            with self.assertRaises(ReportError) as refused:
-                list(reading([f"problem 1\n{cut}".encode()]))
-            self.assertEqual(refused.exception.line, line)
+        whole = [f"problem 1\n{cut}".encode()]
+        with self.assertRaisesRegex(ReportError, "line 16: expected why the problem is unfinished"):
+            list(read_unfinished_report(whole))
+        with self.assertRaisesRegex(ReportError, "line 13: expected a move"):
+            list(read_report(whole))
 
     def test_set_play_without_its_continuations(self) -> None:
         for lines in ("1...Kg8-h8\n", "1...Kg8-h8\n1...Kg8-f8\n  2.Rh1-h8#\n"):
