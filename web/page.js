@@ -66,7 +66,8 @@ function buildButtons() {
   const reached = document.createElement('strong');
   reached.id = 'reached';
   element('walk').append(reached);
-  for (const [name, act] of Object.entries(OUTS)) addButton('outs', name, null, act);
+  // (what was done before is in what is saved)
+  for (const [name, act] of Object.entries(OUTS)) addButton('outs', name, null, () => state.whenRead(act));
 }
 
 /** Shows the board from the other side, now and in later visits. */

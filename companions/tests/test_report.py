@@ -16,7 +16,15 @@ from pops_companions.report.items import (
     named_items,
 )
 from pops_companions.report.moves import Castling, Mark
-from pops_companions.report.reader import Allowed, ReportError, ReportReader, read_events, read_report
+from pops_companions.report.reader import (
+    CUT,
+    Allowed,
+    ReportError,
+    ReportReader,
+    read_events,
+    read_report,
+    read_unfinished_report,
+)
 from tests import support
 
 
@@ -298,6 +306,7 @@ WRONG = [
     ("#2", "  1...Kg8-f8\n    2.Rb1-b8#", "  1...Kg8-f8", "a defence without a continuation"),
     ("#2", "1.Rh1-h8#", "1.Rh1-h8", "a key without defences"),
     ("#2", "1.Rh1-h8#", "1.Rh1-h8#\n  1...Kg8-h8", "a move below a mate"),
+    ("#3", "1.Rh1-h5", "1.Ra1-b1", "a key twice, without what is below it"),
     ("#3", "1.Rh1-h5", "1.Rh1-h5\n  1...Kg8-h8\n    2.Rb1-b8#", "what is below one key alone"),
     ("s#1", "1.Ra1-b1", "1.Ra1-b1#", "White mates in a selfmate"),
     ("s#1", "  1...Kg8-f8#", "  1...Kg8-f8", "no mate of White"),
@@ -314,22 +323,22 @@ WRONG = [
 
 
 class Strictness(unittest.TestCase):
-    """What pops never writes is refused with its line, by both ways of reading, also after like problems."""
+    """What pops never writes is refused with its line, however it is read, also after like problems."""
 
     def text(self, asked: str, lines: str, board: str = BOARD) -> str:
         count = sum(line[0] != " " for line in lines.split("\n"))
         return f"{board}{asked}\nplay\n{lines}\nsolutions: {count}\n\n"
 
     def refused(self, text: str) -> int:
-        """The line that both ways of reading refuse."""
-        readings = (read_report([text.encode()]), read_events(ReportReader(Allowed.UNFINISHED), [text.encode()]))
-        found = []
-        for reading in readings:
-            with self.assertRaises(ReportError) as refused:
-                list(reading)
-            found.append(refused.exception.line)
-        self.assertEqual(found[0], found[1])
-        return found[0]
+        """The line that each way of reading refuses, of the whole and line by line."""
+        found = set()
+        for pieces in ([text.encode()], text.encode().splitlines(keepends=True)):
+            for reading in (read_report(pieces), read_events(ReportReader(Allowed.UNFINISHED), pieces)):
+                with self.assertRaises(ReportError) as refused:
+                    list(reading)
+                found.add(refused.exception.line)
+        self.assertEqual(len(found), 1)
+        return found.pop()
 
     def test_what_no_problem_shows(self) -> None:
         for asked, old, new, what in WRONG:
@@ -392,6 +401,19 @@ class Strictness(unittest.TestCase):
                 self.refused(right.replace(old, new, 1))
         for wrong in ("fault 11: no man", "fault 12: no men"):
             self.refused(f"problem 1\nline 3: {wrong}\n\n")
+
+    def test_set_play_without_a_total(self) -> None:
+        """Only an unfinished problem may lack it, whatever was read before."""
+        cut = self.text("#1", RIGHT["#1"][0]).replace("#1\n", "#1\nset\n", 1)
+        marked = cut[:-1] + "unfinished: stopped after 1 s\n\n"
+        for end, reason in ((marked, "stopped after 1 s"), (cut[:-1], CUT)):
+            (item,) = read_unfinished_report([f"problem 1\n{end}".encode()])
+            self.assertTrue(isinstance(item, SoundItem) and item.unfinished == reason)
+        whole = [f"problem 1\n{cut}".encode()]
+        with self.assertRaisesRegex(ReportError, "line 16: expected why the problem is unfinished"):
+            list(read_unfinished_report(whole))
+        with self.assertRaisesRegex(ReportError, "line 13: expected a move"):
+            list(read_report(whole))
 
     def test_set_play_without_its_continuations(self) -> None:
         for lines in ("1...Kg8-h8\n", "1...Kg8-h8\n1...Kg8-f8\n  2.Rh1-h8#\n"):

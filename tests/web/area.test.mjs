@@ -15,7 +15,7 @@ const FEW = 100000;
 fill({ ...sharedParts(), example: TEXT, 'fault-words': '{}', engine: 'AGFzbQEAAAA=' });
 const { element } = await import('../../web/elements.js');
 const { fitPart, followCaret, select, selectionNow, showText, wholeText } = await import('../../web/page/area.js');
-const { changeBoard, goSteps, goToProblem, setText, takeFen, takeText } = await import('../../web/page/editing.js');
+const { changeBoard, goSteps, goToProblem, numberWritten, placed, setText, takeFen, takeText } = await import('../../web/page/editing.js');
 const { drawnFault, faultWork, markFaults } = await import('../../web/page/faults.js');
 const { state, textNow } = await import('../../web/page/state.js');
 const { atOnce } = await import('../../web/slices.js');
@@ -284,6 +284,56 @@ test('reading: what is done with the board of a long text waits until the text i
   assert.match(textNow().slice(0, 60), /White Kb6 Rh1 Black Kb8/);
   begin(TEXT);
 }));
+
+test('reading: a key while a long text is shown leaves the changed text to be read in slices', () => withSlowClock(pass => {
+  assert.equal(readsAtOnce(() => select(14, 14)), false);
+  for (let times = 0; !blocksOf.knows(LONG); times++) {
+    assert.ok(times < 100000);
+    pass();
+  }
+  type('x');
+  pass();
+  assert.equal(blocksOf.knows(textNow()), false);
+  begin(TEXT);
+}));
+
+test('reading: the board is of the problem that was last gone to, also while a long text is read', () => withSlowClock(pass => {
+  const end = () => {
+    for (let times = 0; state.waiting.length || state.followed !== null; times++) {
+      assert.ok(times < 100000);
+      pass();
+    }
+    return [1, 3].map(number => textNow().split('NextProblem\n')[number - 1].includes('White Kb6 Rh1 Black Kb8'));
+  };
+  const write = () => {
+    element('problemNumber').value = '3';
+    numberWritten();
+  };
+  const click = () => {
+    const at = LONG.indexOf('Title T 3\n');
+    select(at, at);
+    placed();
+  };
+  assert.equal(readsAtOnce(() => [write, () => changeBoard('mirror')].forEach(act => act())), false);
+  assert.deepEqual(end(), [false, true]);
+  assert.equal(readsAtOnce(() => [() => changeBoard('mirror'), click].forEach(act => act())), false);
+  assert.deepEqual(end(), [true, false]);
+  assert.equal(state.number, 3);
+  begin(TEXT);
+}));
+
+test('reading: what is saved of a long text has what was done with the board before', async () => {
+  const { createObjectURL, revokeObjectURL } = URL;
+  const saved = [];
+  Object.assign(URL, { createObjectURL: blob => saved.push(blob), revokeObjectURL: () => {} });
+  withSlowClock(pass => {
+    assert.equal(readsAtOnce(() => [() => changeBoard('mirror'), element('outText').onclick].forEach(act => act())), false);
+    for (let times = 0; state.waiting.length || state.followed !== null; times++) pass();
+    begin(TEXT);
+  });
+  Object.assign(URL, { createObjectURL, revokeObjectURL });
+  assert.match((await saved[0].text()).slice(0, 60), /White Kb6 Rh1 Black Kb8/);
+});
 
 test('reading: what waits for a long text isn\'t done with another one', () => withSlowClock(pass => {
   assert.equal(readsAtOnce(() => changeBoard('right')), false);

@@ -50,6 +50,7 @@ export function typed() {
     state.follow();
   }, TYPING_PAUSE);
   if (textNow().length < LONG_TEXT) state.follow();
+  else state.endFollowing();
   unmarkFaults();
 }
 
@@ -65,9 +66,11 @@ export function placed() {
 function showPlaced(text) {
   if (textNow() !== text) return;
   const number = blockAt(text, selectionNow().from)?.number ?? 1;
-  if (number === state.number) return;
-  state.choose(number);
-  state.follow();
+  state.inTurn(() => {
+    if (number === state.number) return;
+    state.choose(number);
+    state.follow();
+  });
 }
 
 /**

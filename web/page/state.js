@@ -245,9 +245,17 @@ class PageState {
     else act();
   }
 
-  /** Does what waits, up to a change of a long text. */
+  /** Does what waits, up to a change of a long text. What each one itself leaves to wait comes before the others. */
   goOn() {
-    while (this.waiting.length && (this.followed === null || isRead())) this.waiting.shift()?.();
+    while (this.waiting.length && (this.followed === null || isRead())) {
+      const [[act, ...others], { sheet }] = [this.waiting, this];
+      this.waiting = [];
+      try {
+        act();
+      } finally {
+        if (this.sheet === sheet) this.waiting.push(...others);
+      }
+    }
   }
 
   /**

@@ -95,8 +95,12 @@ class ReportReader:
         self._count = 0
         self._tree = TreeState()
         self._detail = Detail.UNKNOWN
+        # Whether the problem goes on after set play without a total, so that it must be unfinished.
+        self._is_set_cut = False
         # Whether only the next line shows how deep the trees go.
         self._is_undecided = False
+        # The lines of battle play of this phase that were taken before this was known.
+        self._taken_before: list[bytes] = []
         self._known: dict[Form, KnownNodes] = {}
         self._known_here = KnownNodes(self._form)
         self._help = HelpState()
@@ -134,8 +138,8 @@ class ReportReader:
             if self._state != self._problem:
                 raise ReportError(self._line + 1, "the report is cut inside a problem")
         if self._state != self._problem:
-            is_whole = self._state == self._end
-            yield events.EndEvent(self._number, self._unfinished if is_whole else reason)
+            lacks = self._state != self._end or self._is_set_cut and self._unfinished is None
+            yield events.EndEvent(self._number, reason if lacks else self._unfinished)
         self._begun, self._state = b"", self._problem
         # (a reader refers to itself, so that its memory is free only later)
         self._known.clear()
@@ -244,7 +248,9 @@ class ReportReader:
     def _end(self, line: bytes) -> Sequence[events.Event]:
         if line != b"":
             raise self.refused("an empty line", line)
-        self._state = self._problem
+        if self._is_set_cut and self._unfinished is None:
+            raise self.refused("why the problem is unfinished", line)
+        self._state, self._is_set_cut = self._problem, False
         return (events.EndEvent(self._number, self._unfinished),)
 
     def feed_builder(self, data: bytes, builder: ItemBuilder) -> Iterator[items.AnyItem]:
@@ -341,7 +347,10 @@ class ReportReader:
     def _take_nodes(self, lines_left: list[bytes], at: int, builder: ItemBuilder) -> int:
         """Takes lines of battle play; returns how many."""
         end = self._look_ahead(lines_left, at)
-        return builder.take_known(lines_left, at, end, self._known_here, self._tree)
+        taken = builder.take_known(lines_left, at, end, self._known_here, self._tree)
+        if self._detail is Detail.UNKNOWN:
+            self._taken_before += lines_left[at : at + taken]
+        return taken
 
     def _look_ahead(self, lines_left: list[bytes], at: int) -> int:
         """Finds out how deep the trees go, if the lines from a place on show it; returns the place up to
@@ -369,7 +378,12 @@ class ReportReader:
         """Notes how deep the trees go, by the line after a node that shows it."""
         is_deeper = line.startswith(b"  " * (self._first_levels + 1))
         self._detail = Detail.TO_THE_GOAL if is_deeper else Detail.FIRST_MOVES
+        before = self._known_here
         self._choose_known()
+        for taken in self._taken_before:
+            node, known = before[taken], self._known_here[taken]
+            if node is not None and known is not None:
+                known.parent[0] = node.parent[0]
 
     def _decide(self, line: bytes) -> None:
         """Notes how deep the trees go, if the line before had to show it."""
@@ -410,6 +424,7 @@ class ReportReader:
 
     def _phase(self, kind: items.PhaseKind) -> Sequence[events.Event]:
         self._kind, self._count = kind, 0
+        self._taken_before.clear()
         if self._stipulation.play is Play.HELP:
             form = self._form
             if form not in self._known_moves:
@@ -450,6 +465,7 @@ class ReportReader:
         is_set = self._kind is items.PhaseKind.SET
         if self._allowed is Allowed.UNFINISHED and is_set and line == b"play":
             # (as pops-many writes an unfinished problem of which parts of both phases were solved)
+            self._is_set_cut = True
             return self._play(line)
         total = lines.TOTAL.fullmatch(line)
         if total is not None:
@@ -493,6 +509,8 @@ class ReportReader:
         if node is None or expected is not None:
             raise self.refused(expected or "", line)
         self._tree.add(node)
+        if self._detail is Detail.UNKNOWN:
+            self._taken_before.append(line)
         self._is_undecided = self._shows_detail(node)
         level, text, move = node[:3]
         self._count += level == 0
