@@ -149,9 +149,9 @@ class Settings(argparse.Namespace):
         made.add_argument("--version", action="version", version=f"%(prog)s {places.version()}")
         groups: dict[Optional[OneOf], argparse._ActionsContainer] = {None: made}
         for attribute, (names, said) in cls._options.items():
-            given = {"dest": attribute, **said} if names else dict(said)
-            one_of = given.pop("one_of", None)
-            if one_of not in groups:
+            given: dict[str, Any] = {"dest": attribute, **said} if names else dict(said)
+            one_of: Optional[OneOf] = given.pop("one_of", None)
+            if one_of is not None and one_of not in groups:
                 groups[one_of] = made.add_mutually_exclusive_group(required=one_of.is_needed)
             groups[one_of].add_argument(*(names or [attribute]), **given)
         return made

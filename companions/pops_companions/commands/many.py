@@ -296,7 +296,8 @@ class Solving:
         with ExitStack() as opened:
             programs, progress = self._programs, self._progress
             elsewhere = elsewhere_of(settings, self._options, programs, progress, opened)
-            return self._solve(files, journal_path, output, elsewhere)
+            status = self._solve(files, journal_path, output, elsewhere)
+        return status
 
     def _solve(
         self, files: Files, journal_path: str, output: BinaryIO, elsewhere: Optional[Elsewhere]

@@ -178,9 +178,10 @@ class ChildProcess:
             return None if left is None else 1000 * left
 
         output, errors, in_time = _Output(spooled_if), _Said(), True
+        written_to: dict[bool, Union[_Output, _Said]] = {False: output, True: errors}
         with closing(self.pieces(text or b"", wait)) as pieces:
             for stream, piece in pieces:
-                (errors if stream is self.run.stderr else output).write(piece)
+                written_to[stream is self.run.stderr].write(piece)
                 if left == 0:
                     in_time = False
                     self.kill()

@@ -192,7 +192,7 @@ class Copies:
                 idle = next((it for it in self._copies if it.piece is None), None)
                 if self._copies and idle is None:
                     break
-                piece = self._again.pop() if self._again else next(numbered, None)
+                piece = next(numbered, None) if not self._again else self._again.pop()
                 if piece is None:
                     is_over = True
                     continue

@@ -61,6 +61,11 @@ class Progress:
         self.is_shown = sys.stderr.isatty()
         self._width = 0
 
+    def reading(self, name: str, done: int, total: int) -> None:
+        """Shows how much of a file is read."""
+        percent = 100 * done // max(total, 1)
+        self._tell(lambda seconds: f"{self._name}: {percent} % of {name} is read", False)
+
     def begin(self, done: int, total: int) -> None:
         """Begins a run of `total` problems, of which `done` are done."""
         self._is_over = False
