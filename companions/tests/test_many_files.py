@@ -139,6 +139,7 @@ class Several(SixProblems):
                 nowhere,
                 "No such file or directory",
             ),
+            (["--seconds", "9", "-o", str(self.input / "file")], self.input / "file", "Not a directory"),
         ]
         for words, path, reason in cases:
             with self.subTest(words):

@@ -68,10 +68,8 @@ class UnfinishedTarget(Target):
             return False
         try:
             handle = os.open(self._real, _OPEN)
-        except FileNotFoundError:
-            return False
         except OSError:
-            return True
+            return os.path.lexists(self._real)
         try:
             known = os.fstat(handle)
             if not stat.S_ISREG(known.st_mode):
