@@ -61,7 +61,7 @@ class KnownNodes(dict[bytes, Optional[KnownNode]]):
         super().__init__()
         self._form = form
         halves = range(form.first_half, form.first_half + form.halves)
-        # How the lines of each level begin, their half-move and who makes it.
+        # How the lines of each level begin, their half-move, and who makes it.
         self._levels = [
             ("  " * level + prefix(half), half, form.stipulation.side(half))
             for level, half in enumerate(halves)
