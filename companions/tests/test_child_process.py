@@ -1,6 +1,7 @@
 """Programs that a companion starts: how they are ended, and what isn't waited for."""
 
 import os
+import shutil
 import signal
 import subprocess
 import sys
@@ -15,6 +16,7 @@ from pops_companions.many import sessions
 from pops_companions.many.bundle_run import BundleRun
 from pops_companions.many.bundles import Bundles
 from pops_companions.many.child_process import ChildProcess, Outcome, rest_of
+from pops_companions.many.linked import starts_none
 from pops_companions.many.program import RunError, Runs
 from tests import support
 from tests.six_problems import wait_for, watchers
@@ -30,6 +32,17 @@ ChildProcess(sys.argv[1:], subprocess.PIPE, subprocess.PIPE).outcome(b"")
 """
 # A process group of its own, that `timeout` makes.
 _GROUP = "timeout 1800 sleep 1800"
+
+
+class Linked(support.InRoom):
+    @unittest.skipUnless(shutil.which("cc"), "cc isn't installed")
+    def test_a_program_that_may_start_another(self) -> None:
+        for name in ("abs", "fork", "_Fork", "forkpty", "daemon", "wordexp", "posix_spawn"):
+            words = ["cc", "-fno-builtin", "-x", "c", "-", "-o", str(self.room / name)]
+            made = support.run(words, f"int {name}(void); int main(void) {{ return {name}(); }}".encode())
+            # (an older library lacks some)
+            if made.status == 0:
+                self.assertEqual(starts_none(str(self.room / name)), name == "abs", name)
 
 
 class Ended(support.InRoom):

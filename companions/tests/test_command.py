@@ -1,5 +1,6 @@
 """What all companions do alike as commands: outputs and inputs that go away or are closed."""
 
+import errno
 import os
 import runpy
 import signal
@@ -441,6 +442,15 @@ class Ends(unittest.TestCase):
             "from pops_companions import start",
         )
         self.assertEqual(outcome, (4, b"", "pops-judge: out of memory\n"))
+
+    def test_a_folder_that_memory_does_not_suffice_to_list(self) -> None:
+        lacking = mock.Mock(find_spec=mock.Mock(side_effect=OSError(errno.ENOMEM, os.strerror(errno.ENOMEM))))
+        for name in sorted({words[0] for words in MISSING}):
+            with self.subTest(name), mock.patch.dict(sys.modules), mock.patch.object(sys, "meta_path", [lacking]):
+                sys.modules.pop("pops_companions.start", None)
+                with self.assertRaises(SystemExit) as end:
+                    runpy.run_path(str(support.COMPANIONS / name))
+                self.assertEqual(end.exception.code, 4)
 
     def test_a_part_that_is_missing(self) -> None:
         outcome = self.ended(

@@ -139,6 +139,7 @@ class Several(SixProblems):
                 nowhere,
                 "No such file or directory",
             ),
+            (["--seconds", "9", "-o", str(self.input / "file")], self.input / "file", "Not a directory"),
         ]
         for words, path, reason in cases:
             with self.subTest(words):
@@ -225,6 +226,15 @@ class Several(SixProblems):
         self.addCleanup(os.close, reader)
         self.assertEqual(self.many(slow, *words).status, 6)
         self.assertEqual(pipe.stat().st_mode & 0o777, 0o644)
+
+    def test_an_open_file_for_what_is_unfinished_stays(self) -> None:
+        log = self.room / "log"
+        log.write_bytes(b"before\n")
+        with open(log, "ab") as opened:
+            os.set_inheritable(opened.fileno(), True)
+            words = ["--seconds", str(support.PATIENCE), "--unfinished", f"/dev/fd/{opened.fileno()}"]
+            self.assertEqual(run_here.companion("pops-many", *self.words(support.pops(), *words)), (0, b"", ""))
+        self.assertEqual(log.read_bytes(), b"before\n")
 
     def test_a_report_that_would_lack_problems_is_never_complete(self) -> None:
         """Problems are counted as done before they are: the run keeps them, and says so."""

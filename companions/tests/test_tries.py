@@ -324,3 +324,6 @@ class Testing(support.InRoom):
         outcome = self.judged(SEVERAL_THREATS, b"problem 1\n")
         self.assertEqual(outcome.status, 3)
         self.assertIn("some.tries is no text of pops-tries: line 2: ", outcome.error)
+        outcome = self.judged(SEVERAL_THREATS, b"")
+        self.assertEqual((outcome.status, outcome.output), (3, b""))
+        self.assertIn("some.tries is empty: no text of pops-tries", outcome.error)

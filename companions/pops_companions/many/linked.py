@@ -17,6 +17,7 @@ _LIBRARY = b"libc.so.6"
 _STARTING = (
     *(b"execl", b"execle", b"execlp", b"execv", b"execve", b"execveat", b"execvp", b"execvpe"),
     *(b"fork", b"clone", b"clone3", b"posix_spawn", b"posix_spawnp", b"popen", b"system"),
+    *(b"_Fork", b"forkpty", b"daemon", b"wordexp", b"pidfd_spawn", b"pidfd_spawnp"),
     *(b"syscall", b"dlopen", b"dlmopen", b"dlsym"),
 )
 

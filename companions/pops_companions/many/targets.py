@@ -68,10 +68,8 @@ class UnfinishedTarget(Target):
             return False
         try:
             handle = os.open(self._real, _OPEN)
-        except FileNotFoundError:
-            return False
         except OSError:
-            return True
+            return os.path.lexists(self._real)
         try:
             known = os.fstat(handle)
             if not stat.S_ISREG(known.st_mode):
@@ -88,6 +86,6 @@ class UnfinishedTarget(Target):
         return f"{self.path} isn't a file that pops-many wrote: remove or rename it"
 
     def remove(self) -> None:
-        """Removes the file if there is one that isn't foreign."""
-        if os.path.isfile(self._real) and not self.is_foreign:
+        """Removes the file if there is one that isn't foreign. One that the user has open stays."""
+        if not self.is_device and os.path.isfile(self._real) and not self.is_foreign:
             files.remove(self._real)

@@ -55,11 +55,16 @@ class KeptTries:
 
 def tries_of_text(name: str, source: Iterable[bytes]) -> Iterator[TriesReportItem]:
     """Yields the items of a text of tries that messages name so. CommandError where it isn't one."""
+    is_empty = True
     try:
-        yield from read_tries(source)
+        for item in read_tries(source):
+            is_empty = False
+            yield item
     except ReportError as error:
         message = f"{name} is no text of pops-tries: {error}"
         raise CommandError(Status.DEVICE, message) from None
+    if is_empty:
+        raise CommandError(Status.DEVICE, f"{name} is empty: no text of pops-tries")
 
 
 def refuse_numbers_twice(name: str, numbers: Sequence[int]) -> None:
