@@ -221,7 +221,7 @@ def elsewhere_of(
     progress: Progress,
     opened: ExitStack,
 ) -> Optional[Elsewhere]:
-    """Returns the programs on other machines, where any are asked for; `opened` closes connections."""
+    """Returns the programs on the machines that the command line names; `opened` closes connections."""
     if not settings.sshlogin:
         return None
     # (what small runs don't need is loaded only where it is needed)
