@@ -8,7 +8,7 @@ use Rattle.chess_core.specs.declared.diagram.Taken.{Taken}
 use Rattle.chess_core.specs.declared.man.Man.{Man}
 use Rattle.chess_core.specs.Position.{man_on, with_man}
 use Rattle.fen.specs.Fen.{with_square}
-use Rattle.fen.specs.ties.Reading.{Finds, FindsNoSquare, FindsSquare, HasAll, IsReadTo, IsSameBefore, PassesMark, PassesNoMark, men_before, square_before, text_from, with_mark, with_number}
+use Rattle.fen.specs.ties.Reading.{Finds, FindsNoSquare, FindsSquare, HasAll, IsReadTo, IsSameBefore, SkipsMark, SkipsNoMark, men_before, square_before, text_from, with_mark, with_number}
 use Rattle.fen.proofs.Steps.{number_none, row_seven}
 
 -- an empty list of squares has no man
@@ -78,7 +78,7 @@ same_less n others old new same kept = λ j h k. same j (omega arith) k ∙ kept
 pub read_more : (text : List ℕ) (count n : ℕ) (old new : List (Option Man)) (found : Option Man) (empty : ℕ) (rest : List ℕ) (announced : ℕ) (later : List ℕ) (number : ℕ) (last : List ℕ) (next : ℕ)
     → count ≡ suc n → next ≡ n → n < 64 → length new ≡ 64 → IsReadTo text count old empty rest → FindsSquare empty rest found announced later
     → man_on new (square_before n) ≡ found → ((s : ℕ) → (s ≡ square_before n → ⊥) → man_on new s ≡ man_on old s)
-    → PassesMark n announced later number last → IsReadTo text next new number last
+    → SkipsMark n announced later number last → IsReadTo text next new number last
 read_more text count n old new found empty rest announced later number last next e f small size read square here kept mark =
     let before : IsReadTo text (suc n) old empty rest = subst (λ k. IsReadTo text k old empty rest) e read in
     subst (λ k. IsReadTo text k new number last) (sym f) (record {
@@ -107,7 +107,7 @@ read_no_square text count n old empty rest e read none others tail h =
 
 -- no diagram's text has no mark where one should be
 pub read_no_mark : (text : List ℕ) (count n : ℕ) (old : List (Option Man)) (found : Option Man) (empty : ℕ) (rest : List ℕ) (announced : ℕ) (later : List ℕ)
-    → count ≡ suc n → IsReadTo text count old empty rest → FindsSquare empty rest found announced later → PassesNoMark n announced later
+    → count ≡ suc n → IsReadTo text count old empty rest → FindsSquare empty rest found announced later → SkipsNoMark n announced later
     → (others : List (Option Man)) (tail : List ℕ) → text ≡ text_from others 64 tail → ⊥
 read_no_mark text count n old found empty rest announced later e read square none others tail h =
     let before : IsReadTo text (suc n) old empty rest = subst (λ k. IsReadTo text k old empty rest) e read in

@@ -6,7 +6,7 @@ use Rattle.chess_core.specs.Position.{man_on}
 use Rattle.fen.specs.Letters.{is_bracketed, letter_of, man_text}
 use Rattle.fen.proofs.LettersOfMen.{letter_large, letter_names}
 use Rattle.fen.specs.Fen.{is_digit, with_empty, with_square}
-use Rattle.fen.specs.ties.Reading.{FindsNoMan, FindsNoSquare, FindsSquare, IsLeft, IsRow, PassesMark, PassesNoMark, begins_with_digit, mark, square_before, text_from, with_mark, with_number}
+use Rattle.fen.specs.ties.Reading.{FindsNoMan, FindsNoSquare, FindsSquare, IsLeft, IsRow, SkipsMark, SkipsNoMark, begins_with_digit, mark, square_before, text_from, with_mark, with_number}
 
 -- the first byte of equal texts
 pub heads : {x y : ℕ} {xs ys : List ℕ} → x ∷ xs ≡ y ∷ ys → x ≡ y
@@ -299,8 +299,8 @@ unfolding with_mark
 with_mark_within after text h = cond-false (eqb (after % 8) 0) _ _ (ne_eqb _ _ (λ e. omega arith))
 
 -- within a rank there is no mark
-pub passes_within : (after empty : ℕ) (text : List ℕ) → IsLeft empty text → 0 < after % 8 → PassesMark after empty text empty text
-passes_within after empty text left h = record {
+pub skips_within : (after empty : ℕ) (text : List ℕ) → IsLeft empty text → 0 < after % 8 → SkipsMark after empty text empty text
+skips_within after empty text left h = record {
   left = left;
   is = sym (with_mark_within after (with_number empty text) h);
   only = λ tail e. sym (e ∙ with_mark_within after tail h);
@@ -308,9 +308,9 @@ passes_within after empty text left h = record {
 }
 
 -- the mark of a rank's end
-pub passes_end : (after empty : ℕ) (text rest : List ℕ) → after % 8 ≡ 0 → empty ≡ 0 → text ≡ mark after ∷ rest → PassesMark after empty text 0 rest
+pub skips_end : (after empty : ℕ) (text rest : List ℕ) → after % 8 ≡ 0 → empty ≡ 0 → text ≡ mark after ∷ rest → SkipsMark after empty text 0 rest
 unfolding with_number
-passes_end after empty text rest h none is =
+skips_end after empty text rest h none is =
     let e : with_number empty text ≡ mark after ∷ rest = number_none empty text none ∙ is in
     record {
       left = record { small = omega arith; ends = λ some. absurd (omega arith) };
@@ -320,7 +320,7 @@ passes_end after empty text rest h none is =
     }
 
 -- at the end of a rank there is no number
-pub no_mark_number : (after empty : ℕ) (text : List ℕ) → after % 8 ≡ 0 → IsLeft empty text → 0 < empty → PassesNoMark after empty text
+pub no_mark_number : (after empty : ℕ) (text : List ℕ) → after % 8 ≡ 0 → IsLeft empty text → 0 < empty → SkipsNoMark after empty text
 unfolding with_number
 no_mark_number after zero text h left some = absurd (omega arith)
 no_mark_number after (suc n) text h left some = λ tail e.
@@ -330,7 +330,7 @@ no_mark_number after (suc n) text h left some = λ tail e.
     false≢true (sym (mark_no_digit after) ∙ ap is_digit (sym first) ∙ digit)
 
 -- at the end of a rank there is another byte, or none
-pub no_mark : (after empty : ℕ) (text : List ℕ) → after % 8 ≡ 0 → empty ≡ 0 → ((rest : List ℕ) → text ≡ mark after ∷ rest → ⊥) → PassesNoMark after empty text
+pub no_mark : (after empty : ℕ) (text : List ℕ) → after % 8 ≡ 0 → empty ≡ 0 → ((rest : List ℕ) → text ≡ mark after ∷ rest → ⊥) → SkipsNoMark after empty text
 no_mark after empty text h none other = λ tail e. other tail (sym (number_none empty text none) ∙ e ∙ with_mark_end after tail h)
 
 -- a byte that is no digit isn't one

@@ -5,7 +5,7 @@ ghost use Rattle.chess_core.specs.declared.man.Kind.{Kind};
 ghost use Rattle.chess_core.specs.declared.man.Man.{Man};
 ghost use Rattle.fen.specs.Letters.{is_bracketed, letter_of, man_text, small_letter};
 ghost use Rattle.fen.specs.Fen.{is_digit};
-ghost use Rattle.fen.specs.ties.Reading.{Finds, FindsNoMan, FindsNoSquare, FindsNone, FindsSquare, HasAll, IsLeft, PassesMark, PassesNoMark, begins_with_digit, is_written, mark, men_before, square_before};
+ghost use Rattle.fen.specs.ties.Reading.{Finds, FindsNoMan, FindsNoSquare, FindsNone, FindsSquare, HasAll, IsLeft, SkipsMark, SkipsNoMark, begins_with_digit, is_written, mark, men_before, square_before};
 
 use crate::bytes::{skip, split};
 use crate::letters::{is_bracketed, small_letter};
@@ -126,10 +126,10 @@ pub(crate) fn mark(after: u8) -> u8
 }
 
 // Reads the end of a rank, if the square was the last of one; `after` squares come after it.
-fn pass_mark(after: u8, empty: u8, text: &[u8]) -> Result<(u8, &[u8]), NotFen>
+fn skip_mark(after: u8, empty: u8, text: &[u8]) -> Result<(u8, &[u8]), NotFen>
     requires { IsLeft empty text.now }
-    ensures { MatchResult result (λ found. PassesMark after empty text.now found.0 found.1.now)
-        (λ _. PassesNoMark after empty text.now) }
+    ensures { MatchResult result (λ found. SkipsMark after empty text.now found.0 found.1.now)
+        (λ _. SkipsNoMark after empty text.now) }
 {
     if after % 8 > 0 {
         return Ok((empty, text));
@@ -176,7 +176,7 @@ pub(crate) fn read_men(text: &[u8]) -> Result<(Diagram, &[u8]), NotFen>
         let after = 63 - number;
         let (found, announced, rest) = next_square(empty, left)?;
         set(&mut diagram, after, found);
-        let (announced, rest) = pass_mark(after, announced, rest)?;
+        let (announced, rest) = skip_mark(after, announced, rest)?;
         empty = announced;
         left = rest;
     }

@@ -79,15 +79,15 @@ FindsNoSquare empty text = (square : Option Man) (tail : List ℕ) → IsRow 7 t
     → with_number empty text ≡ with_square square tail → ⊥
 
 -- the mark comes first, if the square was the last of a rank, and then what is left
-pub record PassesMark (after empty : ℕ) (text : List ℕ) (announced : ℕ) (rest : List ℕ) : Type 0 where
+pub record SkipsMark (after empty : ℕ) (text : List ℕ) (announced : ℕ) (rest : List ℕ) : Type 0 where
   pub left : IsLeft announced rest
   pub is : with_number empty text ≡ with_mark after (with_number announced rest)
   pub only : (tail : List ℕ) → with_number empty text ≡ with_mark after tail → tail ≡ with_number announced rest
   pub done : after % 8 ≡ 0 → announced ≡ 0
 
 -- the mark should come first, and doesn't
-abbrev pub PassesNoMark : ℕ → ℕ → List ℕ → Type 0
-PassesNoMark after empty text = (tail : List ℕ) → with_number empty text ≡ with_mark after tail → ⊥
+abbrev pub SkipsNoMark : ℕ → ℕ → List ℕ → Type 0
+SkipsNoMark after empty text = (tail : List ℕ) → with_number empty text ≡ with_mark after tail → ⊥
 
 -- the men are the same on all squares but this many, the last ones
 abbrev pub IsSameBefore : ℕ → List (Option Man) → List (Option Man) → Type 0
