@@ -1,5 +1,5 @@
 -- The kinds of faults, their numbers and texts (own).
-use Rattle.std.specs.Prelude.{ℕ, Bool, true, false, List, Option, codes, option_map}
+use Rattle.std.specs.Prelude.{ℕ, Bool, true, false, List, Option, ◌++◌, codes, decimal, option_map}
 use Rattle.pop_input.specs.declared.item.Fault.{Fault}
 use Rattle.pop_input.specs.declared.fault_kind.FaultKind.{FaultKind}
 use Rattle.pop_input.specs.declared.fault_kind.FaultKind.TheVariants.{BeginProblemMissing, WordMisplaced, WordTooLong, ColourMissing, SquareTaken, PawnOnOuterRank, SecondKing}
@@ -53,6 +53,12 @@ message_of WaitingSideInCheck = codes "side not to move is in check"
 message_of EndProblemMissing = codes "input ended before EndProblem"
 message_of InputTooLong = codes "input too long"
 message_of DeviceFailed = codes "input device failed"
+
+-- what a report's line says of a fault
+abbrev pub fault_line : Fault → List ℕ
+fault_line fault =
+    codes "line " ++ decimal fault.line ++ codes ": fault " ++ decimal (number_of fault.kind)
+    ++ codes ": " ++ message_of fault.kind
 
 -- whether the source of the input has failed
 abbrev pub is_device_failure : FaultKind → Bool

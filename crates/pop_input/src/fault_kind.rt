@@ -124,6 +124,7 @@ impl FaultKind {
     }
 }
 
+/// Writes its message.
 impl fmt::Display for FaultKind {
     ghost output = { λ kind. Some (message_of kind) };
 

@@ -1,9 +1,10 @@
 //! The items of an input.
-ghost use Rattle.std.specs.Prelude.{◌≡◌, ◌≤◌};
+ghost use Rattle.std.specs.Prelude.{◌≡◌, ◌≤◌, Some};
 ghost use Rattle.pop_input.specs.FaultKinds.{fault_at, number_of};
 
 use crate::fault_kind::FaultKind;
 use crate::problem::Problem;
+use std::fmt;
 
 /// Why an item isn't sound, and where.
 #[derive(Clone, Copy, Debug)]
@@ -29,6 +30,18 @@ impl Fault {
         ensures most { result ≤ 21 }
     {
         self.kind.number()
+    }
+}
+
+/// Writes what a report says of it, such as `line 4: fault 17: side to be mated has no king`.
+impl fmt::Display for Fault {
+    ghost use Rattle.pop_input.specs.FaultKinds.{fault_line};
+
+    ghost output = { λ fault. Some (fault_line fault) };
+
+    fn fmt<W: fmt::Write>(&self, f: &mut fmt::Formatter<W>) -> fmt::Result {
+        let (line, number, kind) = (self.line, self.number(), self.kind);
+        write!(f, "line {line}: fault {number}: {kind}")
     }
 }
 
