@@ -57,14 +57,14 @@ impl Block {
         ensures { ReadsWord self.old self.new line word.now }
     {
         if self.fault.is_none() {
-            if let Some(kind) = self.take(word) {
+            if let Some(kind) = self.begin_or_read(word) {
                 self.fault = Some(Fault::at(kind, line));
             }
         }
     }
 
-    // Reads a word in a block without a fault, and returns the word's fault, if any.
-    fn take(&mut self, word: &ShortWord<'_>) -> Option<FaultKind>
+    // Begins the problem or reads a word of it, in a block without a fault, and returns the word's fault, if any.
+    fn begin_or_read(&mut self, word: &ShortWord<'_>) -> Option<FaultKind>
         ensures kind { result ≡ fault_of self.old.begun self.old.draft word.now }
         ensures begun { result ≡ None → self.new.begun ≡ true }
         ensures draft { result ≡ None → self.new.draft
@@ -75,7 +75,7 @@ impl Block {
     {
         let command = word.command();
         if self.begun {
-            return self.draft.take(word);
+            return self.draft.read(word);
         }
         match command {
             Some(Command::Begin) => {

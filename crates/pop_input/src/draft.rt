@@ -87,40 +87,40 @@ impl Draft {
     }
 
     /// Reads a word, and returns its fault, if any.
-    pub(crate) fn take(&mut self, word: &ShortWord<'_>) -> Option<FaultKind>
+    pub(crate) fn read(&mut self, word: &ShortWord<'_>) -> Option<FaultKind>
         ensures fault { result ≡ fault_in self.old word.now }
         ensures draft { result ≡ None → self.new ≡ draft_after self.old word.now }
     {
         match self.context.expected {
-            Some(ExpectedValue::Number) => self.take_limit(word),
-            Some(ExpectedValue::OneSquare) => self.take_en_passant(word),
+            Some(ExpectedValue::Number) => self.read_limit(word),
+            Some(ExpectedValue::OneSquare) => self.read_en_passant(word),
             Some(ExpectedValue::Squares) => match squares_named(word.bytes()) {
                 Some(squares) => self.forbid(squares.as_slice()),
                 None => Some(FaultKind::SquareMissing),
             },
             Some(ExpectedValue::MoreSquares) => match squares_named(word.bytes()) {
                 Some(squares) => self.forbid(squares.as_slice()),
-                None => self.take_plain(word),
+                None => self.read_plain(word),
             },
-            None => self.take_plain(word),
+            None => self.read_plain(word),
         }
     }
 
     // Reads a word that no option expects: a command, or a word of the open section.
-    fn take_plain(&mut self, word: &ShortWord<'_>) -> Option<FaultKind>
+    fn read_plain(&mut self, word: &ShortWord<'_>) -> Option<FaultKind>
         ensures fault { result ≡ role_fault self.old
             (plain_role (command_of word.now) self.old.context.section) word.now }
         ensures draft { result ≡ None → self.new ≡ draft_by
             (plain_role (command_of word.now) self.old.context.section) self.old word.now }
     {
         match word.command() {
-            Some(command) => self.take_command(command),
-            None => self.take_in(self.context.section, word),
+            Some(command) => self.read_command(command),
+            None => self.read_in(self.context.section, word),
         }
     }
 
     // Reads a command, which ends the last colour and the value that an option expects.
-    fn take_command(&mut self, command: Command) -> Option<FaultKind>
+    fn read_command(&mut self, command: Command) -> Option<FaultKind>
         ensures fault { result ≡ control_fault command }
         ensures draft { result ≡ None → self.new ≡ draft_by (Control command) self.old [] }
     {
@@ -137,16 +137,16 @@ impl Draft {
     }
 
     // Reads a word of a section, which is neither a command nor a value that an option expects.
-    fn take_in(&mut self, section: Option<Section>, word: &ShortWord<'_>) -> Option<FaultKind>
+    fn read_in(&mut self, section: Option<Section>, word: &ShortWord<'_>) -> Option<FaultKind>
         ensures fault { result ≡ role_fault self.old (Within section) word.now }
         ensures draft { result ≡ None → self.new ≡ draft_by (Within section) self.old word.now }
     {
         match section {
             None => Some(FaultKind::WordMisplaced),
-            Some(Section::Pieces) => self.take_pieces(word),
-            Some(Section::Stipulation) => self.take_stipulation(word),
-            Some(Section::Condition) => self.take_condition(word),
-            Some(Section::Options) => self.take_option(word),
+            Some(Section::Pieces) => self.read_pieces(word),
+            Some(Section::Stipulation) => self.read_stipulation(word),
+            Some(Section::Condition) => self.read_condition(word),
+            Some(Section::Options) => self.read_option(word),
         }
     }
 }

@@ -11,7 +11,7 @@ use crate::short_word::ShortWord;
 
 impl Draft {
     /// Reads a word of the section Condition, and returns its fault, if any.
-    pub(crate) fn take_condition(&mut self, word: &ShortWord<'_>) -> Option<FaultKind>
+    pub(crate) fn read_condition(&mut self, word: &ShortWord<'_>) -> Option<FaultKind>
         ensures fault { result ≡ role_fault self.old (Within (Some Conditions)) word.now }
         ensures draft { result ≡ None → self.new
             ≡ draft_by (Within (Some Conditions)) self.old word.now }

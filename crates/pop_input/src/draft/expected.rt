@@ -15,7 +15,7 @@ use chess_core::{Square, Unmoved};
 
 impl Draft {
     /// Reads the number after MaxSolutions.
-    pub(crate) fn take_limit(&mut self, word: &ShortWord<'_>) -> Option<FaultKind>
+    pub(crate) fn read_limit(&mut self, word: &ShortWord<'_>) -> Option<FaultKind>
         ensures fault { result ≡ role_fault self.old Limit word.now }
         ensures draft { result ≡ None → self.new ≡ draft_by Limit self.old word.now }
     {
@@ -30,7 +30,7 @@ impl Draft {
     }
 
     /// Reads the square after EnPassant.
-    pub(crate) fn take_en_passant(&mut self, word: &ShortWord<'_>) -> Option<FaultKind>
+    pub(crate) fn read_en_passant(&mut self, word: &ShortWord<'_>) -> Option<FaultKind>
         ensures fault { result ≡ role_fault self.old EnPassantSquare word.now }
         ensures draft { result ≡ None → self.new ≡ draft_by EnPassantSquare self.old word.now }
     {

@@ -18,7 +18,7 @@ use chess_core::{Kind, Man, Square};
 
 impl Draft {
     /// Reads a colour, or the letter of a kind and the squares of its men, and returns the word's fault, if any.
-    pub(crate) fn take_pieces(&mut self, word: &ShortWord<'_>) -> Option<FaultKind>
+    pub(crate) fn read_pieces(&mut self, word: &ShortWord<'_>) -> Option<FaultKind>
         ensures fault { result ≡ role_fault self.old (Within (Some Pieces)) word.now }
         ensures draft { result ≡ None → self.new
             ≡ draft_by (Within (Some Pieces)) self.old word.now }
@@ -30,13 +30,13 @@ impl Draft {
                 self.colour = Some(colour);
                 None
             }
-            (None, [letter, text @ ..]) => self.take_men(*letter, text),
+            (None, [letter, text @ ..]) => self.read_men(*letter, text),
             (None, []) => None,
         }
     }
 
     // Reads a letter, and the text after it as squares.
-    fn take_men(&mut self, letter: u8, text: &[u8]) -> Option<FaultKind>
+    fn read_men(&mut self, letter: u8, text: &[u8]) -> Option<FaultKind>
         requires { length text.now ≤ longest_word }
         ensures fault { result ≡ letter_fault self.old (kind_of letter) text.now }
         ensures draft { result ≡ None → self.new
@@ -46,13 +46,13 @@ impl Draft {
             } }
     {
         match Kind::of_letter(letter) {
-            Some(kind) => self.take_kind(kind, text),
+            Some(kind) => self.read_kind(kind, text),
             None => Some(FaultKind::WordMisplaced),
         }
     }
 
     // Reads the squares of men of this kind.
-    fn take_kind(&mut self, kind: Kind, text: &[u8]) -> Option<FaultKind>
+    fn read_kind(&mut self, kind: Kind, text: &[u8]) -> Option<FaultKind>
         requires { length text.now ≤ longest_word }
         ensures fault { result ≡ letter_fault self.old (Some kind) text.now }
         ensures draft { result ≡ None → self.new

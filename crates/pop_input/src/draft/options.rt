@@ -11,7 +11,7 @@ use crate::short_word::ShortWord;
 
 impl Draft {
     /// Reads a word of the section Option, and returns its fault, if any.
-    pub(crate) fn take_option(&mut self, word: &ShortWord<'_>) -> Option<FaultKind>
+    pub(crate) fn read_option(&mut self, word: &ShortWord<'_>) -> Option<FaultKind>
         ensures fault { result ≡ role_fault self.old (Within (Some Options)) word.now }
         ensures draft { result ≡ None → self.new
             ≡ draft_by (Within (Some Options)) self.old word.now }

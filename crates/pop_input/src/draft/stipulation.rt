@@ -11,7 +11,7 @@ use crate::values::stipulation_of;
 
 impl Draft {
     /// Reads a word of the section Stipulation, and returns its fault, if any.
-    pub(crate) fn take_stipulation(&mut self, word: &ShortWord<'_>) -> Option<FaultKind>
+    pub(crate) fn read_stipulation(&mut self, word: &ShortWord<'_>) -> Option<FaultKind>
         ensures fault { result ≡ role_fault self.old (Within (Some Stipulations)) word.now }
         ensures draft { result ≡ None → self.new
             ≡ draft_by (Within (Some Stipulations)) self.old word.now }
