@@ -27,6 +27,17 @@
 //! ```
 //!
 //! The interface is what the root re-exports. No call allocates, and each leaves the board unchanged.
+//!
+//! | Word | Meaning |
+//! |---|---|
+//! | plan | where each man ends in a mate, of which kind, and in how many moves on an empty board |
+//! | guard, blocker | a man of the mating side; a man of the king's side that ends next to its king |
+//! | hold | to guard a square next to the king, or to block it |
+//! | whereabouts | the squares where a man can be, by what it is there |
+//! | ways | how a man gets there: its chain has its whereabouts within each number of moves |
+//! | post | where a guard may end, and in how many moves |
+//! | quest | the king's last square, the guards and blockers: that for which a plan is searched |
+//! | prey, lures | squares where pawns may capture: where men are now, where men may go to be captured |
 #![tactic(auto)]
 
 mod blocks;
