@@ -55,8 +55,7 @@ impl Buffer { pub fn new() -> Self { Buffer(String::new()) } pub fn format<T: st
 """
 MAIN = '''
 use std::io::{Read, Write};
-use pop_text::source::{Device, Source};
-use pop_text::sink::{Sink, SinkFault};
+use pop_text::{Device, Sink, SinkFault, Source};
 struct In(Box<dyn Read>);
 impl Source for In { fn read(&mut self, b: &mut [u8]) -> Result<usize, Device> { self.0.read(b).map_err(|_| Device) } }
 struct Out<'a>(std::io::StdoutLock<'a>);
@@ -68,7 +67,7 @@ fn main() {
     let mut out = Out(std::io::stdout().lock());
     let status = pop_run::run(&pop_run::Settings { file: None, check, no_board }, &mut In(input), &mut out);
     out.0.flush().unwrap();
-    use pop_run::status::Status;
+    use pop_run::Status;
     std::process::exit(match status { Status::Sound => 0, Status::Faulty => 1, _ => 3 });
 }
 '''

@@ -27,7 +27,7 @@ pub mod leaps;
 pub mod lines;
 pub mod occupancy;
 pub mod reach;
-pub mod rules;
+mod rules;
 pub mod unblocked;
 pub mod words;
 

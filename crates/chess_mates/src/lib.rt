@@ -29,11 +29,11 @@
 //! leaves the board unchanged.
 #![tactic(auto)]
 
-pub mod aims;
+mod aims;
 mod checks;
-pub mod every_move;
+mod every_move;
 mod flights_after;
-pub mod mating_moves;
+mod mating_moves;
 mod origins;
 mod parries;
 mod standing_flights;

@@ -8,7 +8,7 @@ use crate::family::Family;
 use crate::plain::{Plain, Rule};
 use chess_core::{Board, Move};
 use chess_rules::{Circe, Madrasi, Moves, Orthodox, Rules};
-use chess_threats::threats::Threats;
+use chess_threats::Threats;
 
 // The outcome for the positions of a family.
 #[derive(Clone, Copy)]

@@ -11,8 +11,7 @@ use crate::plain::{Plain, Rule};
 use chess_attacks::words::only;
 use chess_core::{Board, Diagram, Square};
 use chess_rules::{Circe, LegalCursor, Madrasi, Orthodox, Rules};
-use chess_threats::kept_flights::KeptFlights;
-use chess_threats::threats::Threats;
+use chess_threats::{KeptFlights, Threats};
 
 // What the filter reports of the men in the positions of a family.
 #[derive(Clone, Copy)]

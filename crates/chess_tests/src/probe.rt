@@ -9,8 +9,7 @@ use arrayvec::ArrayVec;
 use chess_core::{Board, Colour, Diagram, Kind, Move, Square};
 use chess_mates::mate_cursor;
 use chess_rules::{Circe, Madrasi, Moves, Orthodox, Rules, is_mate, play, unplay};
-use chess_threats::quiet_steps::QuietSteps;
-use chess_threats::threats::Threats;
+use chess_threats::{QuietSteps, Threats};
 
 // Returns whether two boards agree in everything that they report.
 pub(crate) fn is_same(one: &Board, two: &Board) -> bool {

@@ -29,15 +29,15 @@
 mod guards_without;
 mod homes;
 mod hopped_flights;
-pub mod kept_flights;
+mod kept_flights;
 mod king_attack;
 mod king_zone;
 mod lasting_flights;
-pub mod quiet_steps;
+mod quiet_steps;
 mod risk;
 mod safe_steps;
 mod steps;
-pub mod threats;
+mod threats;
 
 pub use crate::kept_flights::KeptFlights;
 pub use crate::quiet_steps::QuietSteps;

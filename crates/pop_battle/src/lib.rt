@@ -5,11 +5,7 @@
 //! use arrayvec::ArrayVec;
 //! use chess_core::Board;
 //! use chess_rules::Orthodox;
-//! use pop_battle::aim::Aim;
-//! use pop_battle::frame::Frame;
-//! use pop_battle::killers::Killers;
-//! use pop_battle::search_state::SearchState;
-//! use pop_battle::value::value_of;
+//! use pop_battle::{Aim, Frame, Killers, SearchState, value_of};
 //! use pop_stipulation::{Battle, Goal};
 //!
 //! // White Kg6 Ra1, Black Kg8: White mates in one half-move.
@@ -25,18 +21,25 @@
 //! }
 //! ```
 //!
-//! `value` is the interface; `aim`, `frame`, `search_state`, `killers` and `kept_threats` are its types.
-//! `chess` serves `pop_walk` and `pop_parts` too. No call allocates.
+//! The interface is what the root re-exports: `value_of` and its types. `chess` serves the searches above:
+//! the next legal move, goals, how a move is shown. No call allocates.
 #![tactic(auto)]
 
-pub mod aim;
+mod aim;
 pub mod chess;
-pub mod frame;
-pub mod kept_threats;
-pub mod killers;
+mod frame;
+mod kept_threats;
+mod killers;
 mod last_defence;
 mod last_move;
 mod mate_in_two;
 mod move_stages;
-pub mod search_state;
-pub mod value;
+mod search_state;
+mod value;
+
+pub use crate::aim::Aim;
+pub use crate::frame::{Early, Frame, LineEnds, MoveStage, Order};
+pub use crate::kept_threats::KeptThreats;
+pub use crate::killers::Killers;
+pub use crate::search_state::{SearchState, show_fits_u64};
+pub use crate::value::{attacker_to_move, value_of};

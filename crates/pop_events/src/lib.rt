@@ -12,9 +12,9 @@
 //! of a move.
 #![tactic(auto)]
 
-pub mod event;
-pub mod shown;
-pub mod try_event;
+mod event;
+mod shown;
+mod try_event;
 
 pub use event::{Event, Phase};
 pub use shown::{Mark, Shown, Side};

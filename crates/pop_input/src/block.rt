@@ -11,7 +11,7 @@ use crate::fault_kind::FaultKind;
 use crate::item::{Fault, Item, Last};
 use crate::names::{Command, TextWord};
 use crate::short_word::ShortWord;
-use pop_text::text::Text;
+use pop_text::Text;
 
 /// The part of a block that is read so far.
 #[derive(Drop)]

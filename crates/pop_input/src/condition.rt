@@ -19,12 +19,12 @@ pub enum Condition {
 macro_rules! under_condition {
     ($condition:expr, $function:ident::<_ $(, $other:ty)*>($($argument:expr),*)) => {
         match $condition {
-            None => $function::<$crate::condition::Orthodox $(, $other)*>($($argument),*),
-            Some($crate::condition::Condition::Circe) => {
-                $function::<$crate::condition::Circe $(, $other)*>($($argument),*)
+            None => $function::<$crate::Orthodox $(, $other)*>($($argument),*),
+            Some($crate::Condition::Circe) => {
+                $function::<$crate::Circe $(, $other)*>($($argument),*)
             }
-            Some($crate::condition::Condition::Madrasi) => {
-                $function::<$crate::condition::Madrasi $(, $other)*>($($argument),*)
+            Some($crate::Condition::Madrasi) => {
+                $function::<$crate::Madrasi $(, $other)*>($($argument),*)
             }
         }
     };

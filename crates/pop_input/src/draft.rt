@@ -20,7 +20,7 @@ use crate::short_word::ShortWord;
 use crate::switches::Switches;
 use crate::values::{MOST_SOLUTIONS, squares_named};
 use chess_core::{Colour, Diagram, Square, Unmoved};
-use pop_stipulation::stipulation::Stipulation;
+use pop_stipulation::Stipulation;
 use std::marker::Model;
 
 /// What the words of a problem say so far. Contracts see it as the record `Draft` of `specs/Drafts.antt`.

@@ -23,31 +23,31 @@
 //! assert!(rt; sound == 1 && faulty == 1);
 //! ```
 //!
-//! The interface is `reader` (`Reader`), `item` (`Item`, `Fault`, `Last`), `span`, `problem`, `condition` and
-//! `fault_kind`. The other modules are internal: `block` holds one problem while it is read, `draft` what its words say
-//! so far, and `names` and `values` read single words.
+//! The interface is what the root re-exports, and `under_condition!`, which selects the rules of a condition. The module
+//! `block` holds one problem while it is read, `draft` what its words say so far, and `names` and `values` read single
+//! words.
 //!
 //! `specs/Blocks.antt` defines the items: it cuts all words of the input into blocks, one a problem, and reads each
 //! block by itself. A `Problem` can always be set up and solved. No call allocates.
 #![tactic(auto)]
 
 mod block;
-pub mod condition;
+mod condition;
 mod context;
 mod draft;
-pub mod fault_kind;
-pub mod item;
+mod fault_kind;
+mod item;
 mod names;
-pub mod problem;
-pub mod reader;
+mod problem;
+mod reader;
 mod short_word;
-pub mod span;
+mod span;
 mod switches;
 mod token;
 mod values;
 
-pub use crate::condition::Condition;
-pub use crate::fault_kind::FaultKind;
+pub use crate::condition::{Circe, Condition, Madrasi, Orthodox};
+pub use crate::fault_kind::{FaultKind, LONGEST_MESSAGE};
 pub use crate::item::{Fault, Item, Last};
 pub use crate::problem::Problem;
 pub use crate::reader::{Next, Reader};

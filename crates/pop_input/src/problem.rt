@@ -5,8 +5,8 @@ ghost use Rattle.pop_input.specs.Posed.{IsSound};
 use crate::condition::Condition;
 use crate::switches::Switches;
 use chess_core::Diagram;
-use pop_stipulation::stipulation::Stipulation;
-use pop_text::text::Text;
+use pop_stipulation::Stipulation;
+use pop_text::Text;
 use std::marker::Model;
 
 /// The texts of a problem, each empty if there is none.

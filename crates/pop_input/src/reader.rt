@@ -19,11 +19,7 @@ use crate::names::Command;
 use crate::short_word::ShortWord;
 use crate::span::Span;
 use crate::token::{ReadToken, next_token};
-use pop_text::read_fault::ReadFault;
-use pop_text::scanner::Scanner;
-use pop_text::source::Source;
-use pop_text::text::Text;
-use pop_text::word::Word;
+use pop_text::{ReadFault, Scanner, Source, Text, Word};
 use std::marker::Model;
 
 /// Which block of the input is next. A block ends with NextProblem or EndProblem.

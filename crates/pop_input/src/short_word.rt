@@ -4,7 +4,7 @@ ghost use Rattle.pop_input.specs.Names.{command_of};
 ghost use Rattle.pop_text.specs.Words.{longest_word};
 
 use crate::names::{Command, command_of};
-use pop_text::word::Word;
+use pop_text::Word;
 use std::marker::Model;
 
 /// A word of at most `LONGEST_WORD` bytes, and the command that it is, if any. Contracts see the bytes.

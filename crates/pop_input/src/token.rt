@@ -6,11 +6,7 @@ ghost use Rattle.pop_input.specs.ties.Tokens.{IsGapOver, IsSpanOf, NextToken, Us
 
 use crate::names::{TextWord, text_word_of};
 use crate::span::Span;
-use pop_text::read_fault::ReadFault;
-use pop_text::scanner::{Found, Scanner};
-use pop_text::source::Source;
-use pop_text::text::Text;
-use pop_text::word::Word;
+use pop_text::{Found, ReadFault, Scanner, Source, Text, Word};
 
 /// The kind of the next token. The numbers are line numbers, counted from 1.
 #[derive(Clone, Copy)]

@@ -7,7 +7,8 @@ ghost use Rattle.pop_input.specs.Values.{goal_of, is_digit, limit_of, most_solut
 
 use arrayvec::ArrayVec;
 use chess_core::Square;
-use pop_stipulation::stipulation::{Form, Goal, MOST_MOVES, Stipulation};
+use pop_stipulation::{Form, Goal, MOST_MOVES, Stipulation};
+use pop_text::LONGEST_WORD;
 
 /// The greatest number that MaxSolutions takes (own).
 pub const MOST_SOLUTIONS: u32 = 4_000_000_000;

@@ -16,7 +16,7 @@ use arrayvec::ArrayVec;
 use chess_core::{Board, Move};
 use chess_rules::{MovePlace, Rules, Undo, play};
 use pop_battle::chess::next_move;
-use pop_battle::frame::{Frame, MoveStage, Order};
+use pop_battle::{Frame, MoveStage, Order};
 use pop_events::Phase;
 use pop_input::{MOST_FRAMES, Problem};
 use pop_walk::phases::{phase_half_moves, set_up};

@@ -20,7 +20,7 @@ mod items;
 mod list;
 mod part_search;
 mod remaining_parts;
-pub mod request;
+mod request;
 mod searching;
 mod show;
 

@@ -18,7 +18,7 @@ use crate::remaining_parts::RemainingParts;
 use crate::request::{Outcome, PartRequest};
 use crate::searching::parts_in;
 use chess_rules::Rules;
-use pop_battle::killers::Killers;
+use pop_battle::Killers;
 use pop_events::Phase;
 use pop_input::{Fault, Item, MOST_FRAMES, Problem, Reader, under_condition};
 use pop_print::print_event;

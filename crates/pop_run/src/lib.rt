@@ -19,13 +19,13 @@
 //! `specs/Report.antt` defines the report, `specs/Run.antt` what a run does. No call allocates.
 #![tactic(auto)]
 
-pub mod choice;
+mod choice;
 mod item_writer;
 mod laws;
 mod play_writer;
 mod session;
 mod solutions;
-pub mod status;
+mod status;
 mod whole_run;
 
 pub use choice::Choice;

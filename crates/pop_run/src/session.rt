@@ -12,10 +12,8 @@ ghost use Rattle.pop_run.specs.ties.Sessions.{HasMore, Steps, first_state, is_pr
 use crate::choice::Choice;
 use crate::item_writer::ItemWriter;
 use crate::status::{Status, Step};
-use pop_input::item::{Fault, Item, Last};
-use pop_input::reader::Reader;
-use pop_text::sink::{Sink, SinkFault};
-use pop_text::source::Source;
+use pop_input::{Fault, Item, Last, Reader};
+use pop_text::{Sink, SinkFault, Source};
 use run_settings::Settings;
 use std::marker::Model;
 

@@ -9,8 +9,7 @@ use crate::choice::Choice;
 use crate::item_writer::ItemWriter;
 use crate::session::Session;
 use crate::status::{Status, Step};
-use pop_text::sink::Sink;
-use pop_text::source::Source;
+use pop_text::{Sink, Source};
 use run_settings::Settings;
 
 /// Reads all items of the source, writes their report to the sink and returns the status.

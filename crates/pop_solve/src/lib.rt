@@ -32,7 +32,7 @@ mod pruned_search;
 mod search;
 
 pub use laws::no_path_comes_twice;
-pub use pop_battle::frame::Frame;
+pub use pop_battle::Frame;
 pub use pop_events::{Event, Mark, Phase, Shown, Side};
 pub use pruned_search::PrunedSearch;
 pub use search::Search;

@@ -2,9 +2,7 @@
 use arrayvec::ArrayVec;
 use chess_core::Board;
 use chess_rules::Rules;
-use pop_battle::frame::Frame;
-use pop_battle::killers::Killers;
-use pop_battle::search_state::{SearchState, show_fits_u64};
+use pop_battle::{Frame, Killers, SearchState, show_fits_u64};
 use pop_events::Event;
 use pop_input::Problem;
 use pop_walk::phases::{Progress, advance, first_phase};

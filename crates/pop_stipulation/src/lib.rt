@@ -10,6 +10,6 @@
 //! `specs/Stipulations.antt` defines what each stipulation means. No call allocates.
 #![tactic(auto)]
 
-pub mod stipulation;
+mod stipulation;
 
 pub use stipulation::{Battle, Form, Goal, MOST_FRAMES, MOST_HALF_MOVES, MOST_MOVES, Stipulation};

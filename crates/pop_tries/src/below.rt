@@ -9,7 +9,7 @@ ghost use Rattle.pop_tries.specs.ties.Starts.{ShowsBelow, ShowsNext};
 use crate::desk::Desk;
 use chess_core::Board;
 use chess_rules::{MovePlace, Rules};
-use pop_battle::frame::Frame;
+use pop_battle::Frame;
 use pop_events::Shown;
 use pop_input::MOST_FRAMES;
 use pop_walk::mode::Mode;

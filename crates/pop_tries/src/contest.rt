@@ -1,9 +1,8 @@
 //! The battle of a problem.
 ghost use Rattle.std.specs.Prelude.{◌≡◌};
 
-use pop_battle::aim::Aim;
-use pop_stipulation::Battle;
-use pop_stipulation::stipulation::Stipulation;
+use pop_battle::Aim;
+use pop_stipulation::{Battle, Stipulation};
 
 /// A battle with its stipulation, which says how many half-moves it has.
 #[derive(Clone, Copy, Debug)]

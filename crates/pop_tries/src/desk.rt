@@ -4,9 +4,7 @@ ghost use Rattle.std.specs.Prelude.{◌≡◌, []};
 use arrayvec::ArrayVec;
 use chess_core::Board;
 use chess_rules::Rules;
-use pop_battle::frame::Frame;
-use pop_battle::killers::Killers;
-use pop_battle::search_state::SearchState;
+use pop_battle::{Frame, Killers, SearchState};
 
 /// What a search works on: the board, on which it plays moves and takes them back, a frame for each half-move
 /// of its walks and tests, and what it remembers.

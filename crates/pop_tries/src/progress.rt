@@ -12,7 +12,7 @@ use crate::threats::Threat;
 use chess_core::{Move, Square};
 use chess_rules::{MovePlace, Undo};
 use pop_events::TryEvent;
-use pop_input::problem::Problem;
+use pop_input::Problem;
 use pop_stipulation::Battle;
 use pop_walk::phases::Progress;
 

@@ -19,7 +19,7 @@ use crate::refuting::Refuting;
 use chess_core::{Board, Kind, Man, Move};
 use chess_rules::{MovePlace, Rules, has_legal_move, in_check, is_stalemate, play, unplay};
 use pop_battle::chess::{next_move, reaches_goal};
-use pop_battle::value::value_of;
+use pop_battle::value_of;
 use pop_stipulation::{Battle, Goal};
 
 /// Returns whether the first move that led to the board's position is a key.

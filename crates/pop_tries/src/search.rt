@@ -14,7 +14,7 @@ use crate::set_play::{begin_set_play, walk_set_play};
 use chess_core::Board;
 use chess_rules::Rules;
 use pop_events::{Event, TryEvent};
-use pop_input::problem::Problem;
+use pop_input::Problem;
 use std::marker::Model;
 
 /// A search for the keys and tries of a problem, which returns its events one by one and may be dropped at any

@@ -7,7 +7,7 @@ use crate::desk::Desk;
 use crate::group::beginning_of_keys;
 use crate::progress::{Step, Task, TriesProgress};
 use chess_rules::{MovePlace, Rules};
-use pop_battle::frame::Frame;
+use pop_battle::Frame;
 use pop_events::{Event, Phase, TryEvent};
 use pop_walk::mode::Mode;
 use pop_walk::phases::{Progress, Scope, Walk, advance, phase_half_moves, set_up};

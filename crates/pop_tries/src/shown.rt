@@ -8,7 +8,7 @@ use chess_core::{Board, Move};
 use chess_rules::{Rules, play, unplay};
 use pop_battle::chess::{Reached, mark_after, shown_of};
 use pop_events::Shown;
-use pop_stipulation::stipulation::Goal;
+use pop_stipulation::Goal;
 
 /// Returns a legal move of the board's position as it is shown.
 #[tactic(auto, using(chess_rules::proofs::LegalMoves::may_be_made), unfolding(pop_events::specs::Shown::shown_move))]

@@ -24,7 +24,7 @@ use chess_core::{Board, Move, Square};
 use chess_mates::mate_cursor;
 use chess_rules::{MovePlace, Rules, in_check, play, unplay};
 use pop_battle::chess::{is_for_mate, next_move, reaches_goal, turn_over};
-use pop_battle::value::value_of;
+use pop_battle::value_of;
 use pop_walk::mode::Mode;
 use pop_walk::walk::walk_length;
 

@@ -12,12 +12,8 @@ use crate::mode::Mode;
 use arrayvec::ArrayVec;
 use chess_core::{Board, Move};
 use chess_rules::{MovePlace, Rules, play};
-use pop_battle::aim::Aim;
 use pop_battle::chess::next_move;
-use pop_battle::frame::Frame;
-use pop_battle::killers::Killers;
-use pop_battle::search_state::SearchState;
-use pop_battle::value::value_of;
+use pop_battle::{Aim, Frame, Killers, SearchState, value_of};
 use pop_stipulation::{Battle, MOST_FRAMES, MOST_HALF_MOVES};
 use std::mem;
 

@@ -20,8 +20,7 @@ use arrayvec::ArrayVec;
 use chess_core::Board;
 use chess_rules::{MovePlace, Rules};
 use pop_battle::chess::{is_impossible, turn_back, turn_over};
-use pop_battle::frame::Frame;
-use pop_battle::search_state::SearchState;
+use pop_battle::{Frame, SearchState};
 use pop_events::{Event, Phase};
 use pop_input::{MOST_FRAMES, Problem};
 

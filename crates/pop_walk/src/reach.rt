@@ -13,7 +13,7 @@ use chess_core::{Board, Move, Squares};
 use chess_flights::attackers::has_fairy_promotions;
 use chess_reach::mating_squares;
 use chess_rules::{Rules, play, unplay};
-use pop_battle::frame::{Frame, LineEnds};
+use pop_battle::{Frame, LineEnds};
 use pop_stipulation::Goal;
 
 /// The fewest half-moves left with which the walk computes where lines can end: with fewer it costs more than

@@ -17,8 +17,7 @@ use arrayvec::ArrayVec;
 use chess_core::Board;
 use chess_rules::{Rules, play, unplay};
 use pop_battle::chess::{Reached, mark_after, shown_of};
-use pop_battle::frame::Frame;
-use pop_battle::value::attacker_to_move;
+use pop_battle::{Frame, attacker_to_move};
 use pop_events::Shown;
 use pop_stipulation::{Goal, MOST_FRAMES, MOST_HALF_MOVES};
 

@@ -18,11 +18,10 @@ use chess_core::{Board, Move};
 use chess_mates::next_mate;
 use chess_rules::{LegalCursor, MovePlace, Rules, play, unplay};
 use chess_threats::Threats;
-use pop_battle::aim::Aim;
 use pop_battle::chess::{is_for_mate, next_move, reaches_goal};
-use pop_battle::frame::{Frame, MoveStage, Order};
-use pop_battle::search_state::{SearchState, show_fits_u64};
-use pop_battle::value::{attacker_to_move, value_of};
+use pop_battle::{
+    Aim, Frame, MoveStage, Order, SearchState, attacker_to_move, show_fits_u64, value_of,
+};
 use pop_stipulation::Battle;
 
 /// Returns the fewest half-moves with which White, to move, can reach the aim.

@@ -4,8 +4,7 @@ ghost use Rattle.std.specs.Prelude.{◌≡◌, ◌≤◌};
 use pop_program::{on_input, refuse};
 use pop_run::{Settings, run};
 use pop_settings::{ArgFault, settings};
-use pop_text::read_source::ReadSource;
-use pop_text::write_sink::WriteSink;
+use pop_text::{ReadSource, WriteSink};
 use std::io::{Read, Write};
 use std::rt::Files;
 

@@ -4,9 +4,8 @@ ghost use Rattle.std.specs.Prelude.{◌<◌};
 use crate::plain::{ITEMS, items};
 use crate::summary::{Expected, compute};
 use arrayvec::ArrayVec;
-use pop_input::item::{Item, Last};
-use pop_input::reader::Reader;
-use pop_text::trial_source::TrialSource;
+use pop_input::{Item, Last, Reader};
+use pop_text::TrialSource;
 
 // Returns the items that the reader reads of an input, from a source of at most `at_most` bytes a call, which may fail
 // at the end.

@@ -1,9 +1,7 @@
 //! Items as values that can be compared.
 use chess_core::{Colour, Diagram, Kind, Man, Square};
-use pop_input::condition::Condition;
-use pop_input::item::Item;
-use pop_input::problem::Problem;
-use pop_stipulation::stipulation::{Form, Goal};
+use pop_input::{Condition, Item, Problem};
+use pop_stipulation::{Form, Goal};
 
 /// A problem: its men as letters, small ones for Black and 0 for an empty square, and everything else
 /// that it states.

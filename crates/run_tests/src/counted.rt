@@ -1,8 +1,7 @@
 //! Sources and sinks that count their calls.
 ghost use Rattle.std.specs.Prelude.{◌≡◌, ◌<◌};
 
-use pop_text::sink::{Sink, SinkFault};
-use pop_text::source::{Device, Source};
+use pop_text::{Device, Sink, SinkFault, Source};
 
 /// A source or a sink, with the number of its calls, and of its calls after a failure.
 #[derive(Drop)]

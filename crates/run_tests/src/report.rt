@@ -1,7 +1,6 @@
 //! Runs over the rows of `tests/rows`.
 use pop_run::{Settings, Status, run};
-use pop_text::trial_sink::TrialSink;
-use pop_text::trial_source::TrialSource;
+use pop_text::{TrialSink, TrialSource};
 
 pub(crate) fn settings(check: bool) -> Settings {
     Settings {

@@ -5,9 +5,8 @@ use crate::plain::{can_move, first_diagram, is_goal_reached};
 use crate::row::half_moves;
 use chess_core::Board;
 use chess_rules::{Circe, Madrasi, Moves, Orthodox, Rules, in_check, play};
-use pop_input::condition::Condition;
-use pop_input::problem::Problem;
-use pop_stipulation::stipulation::{Form, Goal};
+use pop_input::{Condition, Problem};
+use pop_stipulation::{Form, Goal};
 
 /// Returns the number of lists of fewer than `half_moves` moves, each legal when it is played.
 #[tactic(auto, using(chess_rules::proofs::LegalMoves::may_be_made))]

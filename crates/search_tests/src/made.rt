@@ -3,7 +3,7 @@ ghost use Rattle.std.specs.Prelude.{◌<◌};
 
 use crate::row::posed;
 use arrayvec::ArrayVec;
-use pop_input::problem::Problem;
+use pop_input::Problem;
 
 /// Stipulations, with the letters of White's men, of Black's and of fairy men; few enough men that plain
 /// counts are quick.

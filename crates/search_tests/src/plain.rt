@@ -8,8 +8,8 @@ use arrayvec::ArrayVec;
 use chess_core::{Board, Diagram, Kind, Man, Move, Square};
 use chess_rules::{Moves, Rules, has_legal_move, in_check, play};
 use pop_events::{Event, Mark, Phase, Shown, Side};
-use pop_input::problem::Problem;
-use pop_stipulation::stipulation::{Form, Goal};
+use pop_input::Problem;
+use pop_stipulation::{Form, Goal};
 
 /// The text of a phase: its first `limit` solutions, and their number.
 #[derive(Drop)]

@@ -6,15 +6,11 @@ ghost use Rattle.pop_stipulation.specs.Stipulations.{half_moves};
 use crate::plain::solve;
 use arrayvec::ArrayVec;
 use chess_rules::{Circe, Madrasi, Orthodox, Rules};
-use pop_events::event::Event;
-use pop_input::condition::Condition;
-use pop_input::item::Item;
-use pop_input::problem::Problem;
-use pop_input::reader::Reader;
+use pop_events::Event;
+use pop_input::{Condition, Item, Problem, Reader};
 use pop_print::print_event;
 use pop_solve::{PrunedSearch, Search};
-use pop_text::trial_sink::TrialSink;
-use pop_text::trial_source::TrialSource;
+use pop_text::{TrialSink, TrialSource};
 
 /// A row of `tests/rows`: a problem, the text of its events, and the least and the most positions that a
 /// search may try, where they are known.

@@ -6,8 +6,7 @@ use crate::row::half_moves;
 use arrayvec::ArrayVec;
 use chess_rules::{Circe, Madrasi, Orthodox, Rules};
 use pop_events::{Event, Mark, Phase, Shown};
-use pop_input::condition::Condition;
-use pop_input::problem::Problem;
+use pop_input::{Condition, Problem};
 use pop_solve::Search;
 use std::process::Abort;
 

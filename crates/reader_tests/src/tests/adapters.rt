@@ -1,9 +1,6 @@
 //! Readers and writers of the standard library as sources and sinks: each call calls its reader or writer
 //! once and never retries.
-use pop_text::read_source::ReadSource;
-use pop_text::sink::Sink;
-use pop_text::source::Source;
-use pop_text::write_sink::WriteSink;
+use pop_text::{ReadSource, Sink, Source, WriteSink};
 use std::io;
 use std::io::{ErrorKind, Read, Write};
 

@@ -4,10 +4,7 @@ ghost use Rattle.std.specs.Prelude.{◌<◌};
 use crate::counted::Counted;
 use crate::report::settings;
 use pop_run::{Session, Status, Step, run};
-use pop_text::sink::SinkFault;
-use pop_text::source::Source;
-use pop_text::trial_sink::TrialSink;
-use pop_text::trial_source::TrialSource;
+use pop_text::{SinkFault, Source, TrialSink, TrialSource};
 use std::alloc::AllocError;
 use std::test::Fail;
 

@@ -1,8 +1,7 @@
 //! Endless inputs: 2^30 + 8,192 bytes, more than a run reads. The limit is 2^30 bytes.
 use crate::report::settings;
 use pop_run::{Status, run};
-use pop_text::trial_sink::TrialSink;
-use pop_text::trial_source::TrialSource;
+use pop_text::{TrialSink, TrialSource};
 
 const LIMIT: usize = 1 << 30;
 

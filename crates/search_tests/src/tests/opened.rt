@@ -4,9 +4,8 @@ use crate::made::made;
 use crate::row::{half_moves, posed};
 use crate::watch::{Seen, watch};
 use chess_core::{Kind, Square};
-use pop_input::condition::Condition;
-use pop_input::problem::Problem;
-use pop_stipulation::stipulation::Goal;
+use pop_input::{Condition, Problem};
+use pop_stipulation::Goal;
 use std::process::Abort;
 
 /// The number of generated problems of each sort.

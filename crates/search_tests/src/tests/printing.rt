@@ -1,10 +1,9 @@
 //! Events as they are printed, some of which no search returns today.
 use arrayvec::ArrayVec;
 use chess_core::{Colour, Kind, Man, Square};
-use pop_events::event::Event;
-use pop_events::shown::{Mark, Shown, Side};
+use pop_events::{Event, Mark, Shown, Side};
 use pop_print::print_event;
-use pop_text::trial_sink::TrialSink;
+use pop_text::TrialSink;
 
 // Returns a move of a man between two squares, numbered from a1, 0, to h8, 63.
 fn shown(colour: Colour, kind: Kind, from: u8, to: u8, mark: Mark) -> Shown {
