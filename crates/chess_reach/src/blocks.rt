@@ -17,7 +17,7 @@ pub(crate) type Blocks = [Squares; MOVES];
 fn add_man(blocks: &mut Blocks, chain: &Chain)
     ensures kept { (n t : ℕ) → (bit_at (slice_index_or blocks.old n 0) t == 1) ≡ true
         → (bit_at (slice_index_or blocks.new n 0) t == 1) ≡ true }
-    ensures added { (k j : Kind) (n t : ℕ) → n < 9
+    ensures added { (k j : Kind) (n t : ℕ) → n < MOVES
         → has k j t (slice_index_or chain.now n nowhere) ≡ true
         → (bit_at (slice_index_or blocks.new n 0) t == 1) ≡ true }
 {
@@ -30,7 +30,7 @@ fn add_man(blocks: &mut Blocks, chain: &Chain)
 /// Returns the squares to which some man gets at all.
 #[inline(always)]
 pub(crate) fn all_blockable(blocks: &Blocks) -> Squares
-    ensures { (n t : ℕ) → n < 9 → (bit_at (slice_index_or blocks.now n 0) t == 1) ≡ true
+    ensures { (n t : ℕ) → n < MOVES → (bit_at (slice_index_or blocks.now n 0) t == 1) ≡ true
         → (bit_at result t == 1) ≡ true }
 {
     let mut all = 0u64;
@@ -43,7 +43,7 @@ pub(crate) fn all_blockable(blocks: &Blocks) -> Squares
 /// Returns the squares to which the men of a colour get, other than its king, by the number of moves up to
 /// `most`.
 pub(crate) fn blocks_of(board: &Board, colour: Colour, most: usize, are_reborn: bool) -> Blocks
-    requires { most < 9 }
+    requires { most < MOVES }
     ensures { (allowed : Kind → Bool) → IsUsual allowed
         → AreBlocks are_reborn allowed board.now.men colour most result }
 {

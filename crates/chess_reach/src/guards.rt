@@ -157,7 +157,7 @@ impl Guard {
     #[inline(always)]
     pub(crate) fn fewest(&self, squares: &Whereabouts, least: usize, spare: usize) -> Option<usize>
         ensures within { IfSome result (λ n. (least ≤ n) × (n ≤ least + spare)) }
-        ensures fewest { (j : Kind) (s n : ℕ) → least ≤ n → n ≤ least + spare → n < 9
+        ensures fewest { (j : Kind) (s n : ℕ) → least ≤ n → n ≤ least + spare → n < MOVES
             → has self.now.kind j s (slice_index_or self.now.chain n nowhere) ≡ true
             → has self.now.kind j s squares.now ≡ true → MatchOption result ⊥ (λ f. f ≤ n) }
     {
@@ -185,7 +185,7 @@ pub(crate) fn list_guards(
     are_reborn: bool,
     guards: &mut [Guard; MEN],
 ) -> Option<usize>
-    requires { most < 9 }
+    requires { most < MOVES }
     ensures { IfSome result (λ count. AreGuards are_reborn prey board.now.men colour most guards.new count) }
 {
     let mut rest = board.side(colour);

@@ -143,7 +143,7 @@ impl Quest {
     #[inline(always)]
     fn block_price(&self, square: Square, most: usize) -> Option<usize>
         ensures within { IfSome result (λ n. n ≤ most) }
-        ensures fewest { (n : ℕ) → n ≤ most → n < 9
+        ensures fewest { (n : ℕ) → n ≤ most → n < MOVES
             → (bit_at (slice_index_or self.now.blockable n 0) square == 1) ≡ true
             → MatchOption result ⊥ (λ f. f ≤ n) }
     {
@@ -168,7 +168,7 @@ impl Quest {
         ours: usize,
         theirs: usize,
     ) -> Option<Square>
-        requires { self.now.count ≤ 8 }
+        requires { self.now.count ≤ MEN }
         ensures { IfSome result (λ s. (s < 64) × ((bit_at squares s == 1) ≡ true)) }
     {
         let most = if theirs < MOVES { theirs } else { MOVES - 1 };
@@ -221,7 +221,7 @@ pub(crate) fn can_hold(
     ours: usize,
     theirs: usize,
 ) -> bool
-    requires { quest.now.count ≤ 8 }
+    requires { quest.now.count ≤ MEN }
     ensures { (men : List (Option Man)) (ends : Ends)
         → Holds quest.now men posts.now unheld ours theirs ends → result ≡ true }
 {
@@ -275,7 +275,7 @@ fn can_mate_by(
     ours: usize,
     theirs: usize,
 ) -> bool
-    requires count { quest.now.count ≤ 8 }
+    requires count { quest.now.count ≤ MEN }
     requires checker { checker < quest.now.count }
     ensures { (men : List (Option Man)) (ends : Ends)
         → Holds quest.now men posts.now unheld ours theirs ends
@@ -311,7 +311,7 @@ pub(crate) fn can_mate(
     ours: usize,
     theirs: usize,
 ) -> bool
-    requires { quest.now.count ≤ 8 }
+    requires { quest.now.count ≤ MEN }
     ensures { (men : List (Option Man)) (ends : Ends) (i : ℕ)
         → Holds quest.now men posts.now unheld ours theirs ends → i < quest.now.count
         → DoesCheck quest.now ends i → result ≡ true }

@@ -1,5 +1,5 @@
 //! The squares for which there may be a plan.
-ghost use Rattle.std.specs.Prelude.{◌≡◌, ◌-◌, ◌^◌, ◌<◌, ◌≤◌, false, ◌==◌, ℕ, true, List, Option, IfSome, MatchOption, slice_index_or, ◌⊎◌};
+ghost use Rattle.std.specs.Prelude.{◌≡◌, ◌+◌, ◌-◌, ◌^◌, ◌<◌, ◌≤◌, false, ◌==◌, ℕ, true, List, Option, IfSome, MatchOption, slice_index_or, ◌⊎◌};
 ghost use Rattle.std.specs.Int.{bit_at};
 ghost use Rattle.chess_core.specs.Position.{Position, may_promote, other};
 ghost use Rattle.chess_core.specs.WellFormed.{IsWellFormed};
@@ -33,8 +33,8 @@ fn unheld_squares(king: Square, standing: Squares) -> Squares
 
 // Returns where the guards may end within `most` moves.
 fn first_posts(quest: &Quest, most: usize) -> Posts
-    requires count { quest.now.count ≤ 8 }
-    requires moves { most < 9 }
+    requires count { quest.now.count ≤ MEN }
+    requires moves { most < MOVES }
     ensures { (i : ℕ) → i < quest.now.count
         → post_at result i ≡ record {
           squares = slice_index_or (guard_at quest.now.guards i).chain most nowhere;
@@ -57,7 +57,7 @@ fn first_posts(quest: &Quest, most: usize) -> Posts
 // Keeps the mating king apart from the other, and returns the moves that are left of `most`; `None` if it
 // can't get away.
 fn keep_apart(quest: &Quest, posts: &mut Posts, most: usize) -> Option<usize>
-    requires count { quest.now.count ≤ 8 }
+    requires count { quest.now.count ≤ MEN }
     ensures { (men : List (Option Man)) (ends : Ends) (w theirs : ℕ)
         → Holds quest.now men posts.old w most theirs ends → IsApart quest.now ends
         → MatchOption result ⊥ (λ spare. Holds quest.now men posts.new w spare theirs ends) }
@@ -87,8 +87,8 @@ fn keep_apart(quest: &Quest, posts: &mut Posts, most: usize) -> Option<usize>
 // Returns whether there may be a plan in which the king, a guard of its own square here, ends on the
 // quest's square, and captured men make at least `captured` moves.
 fn may_have_plan(quest: &Quest, king: &Guard, ours: usize, theirs: usize, captured: usize) -> bool
-    requires count { quest.now.count ≤ 8 }
-    requires moves { ours < 9 }
+    requires count { quest.now.count ≤ MEN }
+    requires moves { ours < MOVES }
     requires captured { captured ≤ theirs }
     ensures { (prey : ℕ) (p : Position) (ends : Ends)
         → IsPlan quest.now.ending.goal quest.now.ending.standing_checks
@@ -146,7 +146,7 @@ fn prey(board: &Board, mating: Colour, are_reborn: bool) -> Squares
 // Returns the squares to which pawns of this colour capture men where these get. Without pawns, and in
 // Circe, these are all squares.
 fn lures(board: &Board, mating: Colour, are_reborn: bool, blockable: &Blocks) -> Squares
-    ensures { (n s t : ℕ) → n < 9 → s < 64 → t < 64
+    ensures { (n s t : ℕ) → n < MOVES → s < 64 → t < 64
         → (bit_at (slice_index_or blockable.now n 0) s == 1) ≡ true
         → captures_to mating s t ≡ true → (bit_at result t == 1) ≡ true }
 {
@@ -169,8 +169,8 @@ fn planned_part(
     theirs: usize,
     captured: usize,
 ) -> Squares
-    requires count { quest.old.count ≤ 8 }
-    requires moves { ours < 9 }
+    requires count { quest.old.count ≤ MEN }
+    requires moves { ours < MOVES }
     requires captured { captured ≤ theirs }
     ensures planned { (prey : ℕ) (p : Position) (k : ℕ) (ends : Ends)
         → IsQuestOf prey p quest.old king.now ours theirs → k < 64
@@ -216,7 +216,7 @@ fn may_promote_unfollowed(board: &Board) -> bool
 // `most`.
 #[inline(always)]
 fn king_guard(colour: Colour, from: Square, most: usize, are_reborn: bool) -> Guard
-    requires { most < 9 }
+    requires { most < MOVES }
     ensures kind { result.kind ≡ King }
     ensures from { result.from ≡ from }
     ensures way { IsChain are_reborn (2 ^ 64 - 1) (record { colour = colour; kind = King })
@@ -237,7 +237,7 @@ fn planned_near(
     ours: usize,
     theirs: usize,
 ) -> Option<Squares>
-    requires { ours < 8 }
+    requires { ours + 1 < MOVES }
     ensures { (k : ℕ) (ends : Ends) → IsBegun board.now quest.old king.now theirs → k < 64
         → IsPlan quest.old.ending.goal quest.old.ending.standing_checks quest.old.ending.are_reborn
         board.now quest.old.colour ours theirs k ends

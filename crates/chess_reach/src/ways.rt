@@ -386,7 +386,7 @@ pub(crate) fn chain_of(
     prey: Squares,
     are_reborn: bool,
 ) -> Chain
-    ensures { most < 9 → IsChain are_reborn prey man from most result }
+    ensures { most < MOVES → IsChain are_reborn prey man from most result }
 {
     from.show_below_64();
     let here = Whereabouts::at(from);

@@ -6,6 +6,9 @@ ghost use Rattle.pop_stipulation.specs.declared.stipulation.Battle.TheVariants.{
 use chess_rules::MovePlace;
 use pop_stipulation::{Battle, MOST_HALF_MOVES};
 
+/// The number of killers that stay when each moves a move deeper: the last two fall out.
+const KEPT: usize = MOST_HALF_MOVES - 2;
+
 /// For each number of half-moves below `MOST_HALF_MOVES`, the last two moves that decided a position with that many
 /// half-moves left. A direct mate tries them first in the next position with as many half-moves left. A
 /// killer may be an illegal move there: a bad guess costs only time. A selfmate tries its moves in order,
@@ -52,11 +55,11 @@ impl Killers {
 
     /// Shifts each killer two half-moves deeper.
     pub fn lengthen(&mut self)
-        ensures last { self.new.places ≡ copy_within self.old.places 0 30 2 }
-        ensures earlier { self.new.earlier ≡ copy_within self.old.earlier 0 30 2 }
+        ensures last { self.new.places ≡ copy_within self.old.places 0 KEPT 2 }
+        ensures earlier { self.new.earlier ≡ copy_within self.old.earlier 0 KEPT 2 }
     {
-        self.places.copy_within(0..30, 2);
-        self.earlier.copy_within(0..30, 2);
+        self.places.copy_within(0..KEPT, 2);
+        self.earlier.copy_within(0..KEPT, 2);
     }
 
     /// Records a killer for `left` half-moves; if it differs from the previous one, that becomes the

@@ -13,6 +13,12 @@ use pop_text::LONGEST_WORD;
 /// The greatest number that MaxSolutions takes (own).
 pub const MOST_SOLUTIONS: u32 = 4_000_000_000;
 
+// The most squares that a word names: each has two bytes.
+const MOST_SQUARES: usize = LONGEST_WORD / 2;
+
+// The most bytes of a word that is a stipulation, as of `h#12.5`.
+const LONGEST_STIPULATION: usize = 6;
+
 // Returns the square that a letter, in capitals or not, and a digit name.
 fn square_by(letter: u8, digit: u8) -> Option<Square>
     ensures { result ≡ square_by letter digit }
@@ -25,7 +31,7 @@ fn square_by(letter: u8, digit: u8) -> Option<Square>
 
 /// Returns the squares of a word that is one or more squares and nothing else.
 #[tactic(auto, unfolding(crate::specs::Values::squares_named))]
-pub(crate) fn squares_named(word: &[u8]) -> Option<ArrayVec<Square, 80>>
+pub(crate) fn squares_named(word: &[u8]) -> Option<ArrayVec<Square, MOST_SQUARES>>
     requires { length word.now ≤ longest_word }
     ensures { option_map (λ squares. squares.items) result ≡ squares_named word.now }
 {
@@ -148,7 +154,7 @@ pub(crate) fn stipulation_of(word: &[u8]) -> Option<Stipulation>
     ensures value { result ≡ stipulation_of word.now }
     ensures range { is_stated result ≡ true }
 {
-    if word.len() > 6 {
+    if word.len() > LONGEST_STIPULATION {
         return None;
     }
     stipulation_in_small_letters(small_letters(word).as_slice())
@@ -180,9 +186,9 @@ fn stipulation_in_small_letters(letters: &[u8]) -> Option<Stipulation>
     }
 }
 
-// Returns a word of at most six bytes in small letters.
-fn small_letters(word: &[u8]) -> ArrayVec<u8, 6>
-    requires { length word.now ≤ 6 }
+// Returns a word as short as a stipulation in small letters.
+fn small_letters(word: &[u8]) -> ArrayVec<u8, LONGEST_STIPULATION>
+    requires { length word.now ≤ LONGEST_STIPULATION }
     ensures { result.items ≡ map to_ascii_lowercase word.now }
 {
     let mut small = ArrayVec::new();

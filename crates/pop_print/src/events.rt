@@ -11,7 +11,10 @@ use pop_events::{Event, Phase, Shown};
 use pop_stipulation::MOST_HALF_MOVES;
 use pop_text::{Sink, SinkFault, put_all};
 
-// The room in bytes for a total, or for a node of battle play with at most 64 blanks before it (own).
+// The most blanks before a node of a problem: two for each half-move above it.
+const BLANKS: u64 = 64;
+
+// The room in bytes for a total, or for a node of battle play with at most `BLANKS` blanks before it (own).
 const NODE: usize = 128;
 
 // The most bytes of a half-move's number.
@@ -62,7 +65,7 @@ fn print_line<W: Sink>(sink: &mut W, half: u32, moves: &[Shown]) -> Result<(), S
 }
 
 /// Writes a move of battle play that has `depth` moves above it, and the line's ending after it. No move of a problem
-/// has more than 64 blanks before it. The code for more blanks is for the prover alone, since `depth` may be any
+/// has more than `BLANKS` blanks before it. The code for more blanks is for the prover alone, since `depth` may be any
 /// number.
 ///
 /// # Errors
@@ -82,7 +85,7 @@ pub(crate) fn print_node<W: Sink>(
     ensures counted { W.failures sink.new ≡ count_after result (W.failures sink.old) }
 {
     let blanks = 2 * u64::from(depth);
-    let apart = blanks.saturating_sub(64);
+    let apart = blanks.saturating_sub(BLANKS);
     put_blanks(sink, apart)?;
     let mut line = LineBuffer::<NODE>::new();
     line.add_node(blanks - apart, half, shown, ending);
