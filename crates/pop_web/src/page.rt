@@ -15,6 +15,22 @@ use pop_tries_run::{MOST_REFUTATIONS, TriesWriter};
 /// The size of the output, in bytes. Longer texts are cut.
 const ROOM: usize = 1 << 22;
 
+// `on_text!(input, output, written, |source, sink| call, |ending| number)`: the body of a call of the page. It makes
+// `call` on a source of the input and a sink in memory, copies what the sink keeps to the front of the output, and
+// returns `number`, by which the page knows the ending. An output that is too small is refused.
+macro_rules! on_text {
+    ($input:ident, $output:ident, $written:ident, |$source:ident, $sink:ident| $call:expr, |$ending:ident| $number:expr) => {{
+        if $output.len() < ROOM {
+            return refuse($written);
+        }
+        let mut $source = TextSource::new($input);
+        let mut $sink = MemorySink::<ROOM>::new();
+        let $ending = $call;
+        *$written = copy_out(&$sink, $output);
+        $number
+    }};
+}
+
 /// Writes the report of the input to the front of `output`, and its length in bytes to `written`.
 ///
 /// | Result | When |
@@ -90,14 +106,13 @@ pub extern "C" fn pops_list(
     ensures inside { written.new ≤ length output.new }
     ensures room { length output.new ≡ length output.old }
 {
-    if output.len() < ROOM {
-        return refuse(written);
-    }
-    let mut source = TextSource::new(input);
-    let mut sink = MemorySink::<ROOM>::new();
-    let ending = list_parts(depth_of(depth), &mut source, &mut sink);
-    *written = copy_out(&sink, output);
-    status_number(ending)
+    on_text!(
+        input,
+        output,
+        written,
+        |source, sink| list_parts(depth_of(depth), &mut source, &mut sink),
+        |ending| status_number(ending)
+    )
 }
 
 /// Writes the list of the input's faults to the front of `output`, one line per faulty item with the span of the fault,
@@ -113,14 +128,13 @@ pub extern "C" fn pops_faults(input: &[u8], output: &mut [u8], written: &mut usi
     ensures inside { written.new ≤ length output.new }
     ensures room { length output.new ≡ length output.old }
 {
-    if output.len() < ROOM {
-        return refuse(written);
-    }
-    let mut source = TextSource::new(input);
-    let mut sink = MemorySink::<ROOM>::new();
-    let ending = list_faults(&mut source, &mut sink);
-    *written = copy_out(&sink, output);
-    status_number(ending)
+    on_text!(
+        input,
+        output,
+        written,
+        |source, sink| list_faults(&mut source, &mut sink),
+        |ending| status_number(ending)
+    )
 }
 
 /// Writes the solutions of one part of the input's first problem, and their number, to the front of `output`, and the
@@ -151,15 +165,14 @@ pub extern "C" fn pops_part(
     ensures inside { written.new ≤ length output.new }
     ensures room { length output.new ≡ length output.old }
 {
-    if output.len() < ROOM {
-        return refuse(written);
-    }
     let request = part_of(set_play, depth, number);
-    let mut source = TextSource::new(input);
-    let mut sink = MemorySink::<ROOM>::new();
-    let outcome = show_parts(&request, &mut source, &mut sink);
-    *written = copy_out(&sink, output);
-    outcome_number(outcome)
+    on_text!(
+        input,
+        output,
+        written,
+        |source, sink| show_parts(&request, &mut source, &mut sink),
+        |outcome| outcome_number(outcome)
+    )
 }
 
 // Writes the input's items in the way of the writer to the front of `output`, and their length in bytes to `written`.
@@ -172,14 +185,13 @@ fn show_items<I: ItemWriter>(writer: I, input: &[u8], output: &mut [u8], written
     ensures inside { written.new ≤ length output.new }
     ensures room { length output.new ≡ length output.old }
 {
-    if output.len() < ROOM {
-        return refuse(written);
-    }
-    let mut source = TextSource::new(input);
-    let mut sink = MemorySink::<ROOM>::new();
-    let status = run_with(writer, &mut source, &mut sink);
-    *written = copy_out(&sink, output);
-    status_number(status)
+    on_text!(
+        input,
+        output,
+        written,
+        |source, sink| run_with(writer, &mut source, &mut sink),
+        |status| status_number(status)
+    )
 }
 
 // Notes that nothing is written, and returns the result for an output that is too small.
