@@ -118,9 +118,8 @@ export function* explainFault(text, { number, fault, place: known }) {
  */
 function aloneOf(text, number) {
   const problems = problemsOf(text);
-  const [before, own] = [problems[number - 2]?.tokens.at(-1), problems[number - 1]];
-  const last = own?.isClosed ? own.tokens.at(-1) : null;
-  const [from, to] = [before?.to ?? 0, last?.to ?? text.length];
+  const [before, own] = [problems[number - 2]?.closing, problems[number - 1]?.closing];
+  const [from, to] = [before?.to ?? 0, own?.to ?? text.length];
   const head = before ? `BeginProblem ${before.word}` : '';
   return { from, to, alone: head + text.slice(from, Math.min(to, from + MOST_LETTERS)), place: before ? 2 : 1, start: from - head.length };
 }

@@ -2,7 +2,7 @@
 // Puts a report together: heads as the engine prints them for a text that it only tests, solutions part by part, totals as
 // it prints them. At any time the result is a beginning of the report.
 import { askedOf } from './report.js';
-import { blocksOf, fieldsOf, valueOf, wordsOf } from './text.js';
+import { blocksOf, fieldsOf, problemsOf, valueOf } from './text.js';
 
 export const SOUND_LINE = 'sound\n\n';
 
@@ -12,17 +12,12 @@ export const SOUND_LINE = 'sound\n\n';
  * @param {string} text
  */
 export function itemTexts(text) {
-  const found = [];
-  let opening = '';
   let from = 0;
-  for (const word of wordsOf(text)) {
-    if (word.command !== 'nextproblem' && word.command !== 'endproblem') continue;
-    found.push(`${opening}${text.slice(from, word.from)}EndProblem\n`);
-    if (word.command === 'endproblem') return found;
-    opening = 'BeginProblem';
-    from = word.to;
-  }
-  return [...found, opening + text.slice(from)];
+  return problemsOf(text).map(({ closing }, at) => {
+    const own = (at ? 'BeginProblem' : '') + text.slice(from, closing?.from) + (closing ? 'EndProblem\n' : '');
+    from = closing?.to ?? from;
+    return own;
+  });
 }
 
 /**

@@ -145,8 +145,8 @@ interface Explanation { text: string; marks: Span[] }
 interface Corrected { text: string; asksForTries: boolean; refutations: number }
 /** Work in steps, which may return further work. */
 interface WorkSteps extends Generator<void, WorkSteps | void> {}
-/** The words of a problem, and whether a word ends it. */
-interface ProblemWords { tokens: Token[]; isClosed: boolean }
+/** The words of a problem, and the one that closes it. */
+interface ProblemWords { tokens: Token[]; closing: Token | null }
 /** A line of the text, in pieces. */
 interface MarkedLine { line: number; pieces: { text: string; isMarked: boolean }[] }
 
