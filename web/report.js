@@ -1,12 +1,11 @@
 // @ts-check
 // Reads a report, with or without tries, or a beginning of one: items, phases, trees of moves.
 import { KINDS } from './men.js';
+import { atOnce } from './slices.js';
 
 const REBORN = KINDS.replace('K', '');
 const PROMOTED = REBORN.replace('P', '');
 const RANK = new RegExp(`^[1-8] [${KINDS}${KINDS.toLowerCase()}.]{8}$`);
-/** @type {Record<string, string>} */
-const PLAYS = { '': 'direct', s: 'self', h: 'help' };
 const MOVE = new RegExp(`^(?:(0-0-0|0-0)|([K${PROMOTED}])?([a-h][1-8])([-*])([a-h][1-8])( ep\\.)?(?:=([${PROMOTED}]))?`
   + `(?:\\[\\+([wb])([${REBORN}])([a-h][1-8])\\])?)([+#=])?$`);
 const HALF = /(?:([1-9][0-9]*)(\.\.\.|\.))?((?:[^ ]+)(?: ep\.[^ ]*)?)/g;
@@ -62,13 +61,10 @@ export function movesOf(line, isHelp) {
 export function askedOf(line) {
   const found = ASKED.exec(line);
   if (!found) return null;
-  const [, form, goal, number, half, condition] = found;
+  const [, form, , number, half, condition] = found;
   const moves = Number(number);
-  const isHelp = form === 'h';
-  const halfMoves = isHelp ? 2 * moves + (half ? 1 : 0) : form ? 2 * moves : 2 * moves - 1;
-  const text = line.split(' ')[0];
-  return { line, text, isHelp, play: PLAYS[form], goal, moves, halfMoves,
-    condition: condition ?? null };
+  const halfMoves = 2 * moves + (form ? Number(Boolean(half)) : -1);
+  return { line, text: line.split(' ')[0], isHelp: form === 'h', moves, halfMoves, condition: condition ?? null };
 }
 
 /**
@@ -203,11 +199,8 @@ export class ReportReading {
  * @param {string} report
  */
 export function itemsOf(report) {
-  const reading = new ReportReading();
-  // (what follows the last line end is no empty line, which would end an item)
-  for (const line of report.replace(/\n$/, '').split('\n')) {
-    if (!reading.take(line)) break;
-  }
+  const reading = new ReportReading(report.endsWith('\n') ? report : `${report}\n`);
+  atOnce(reading.more());
   return reading.items;
 }
 

@@ -44,9 +44,7 @@ interface Move {
   castling: string | null; promotion: string | null; rebirth: Rebirth | null; mark: string | null;
 }
 /** A stipulation with its condition. */
-interface Asked {
-  line: string; text: string; isHelp: boolean; play: string; goal: string; moves: number; halfMoves: number; condition: string | null;
-}
+interface Asked { line: string; text: string; isHelp: boolean; moves: number; halfMoves: number; condition: string | null }
 /** A line of a phase; `level` counts the lines that it continues. It has moves, or a word below a first move. */
 interface Solution { line: string; moves: Move[]; level: number; word?: string }
 /** Set play, play or tries; its total is null while it isn't complete. */
