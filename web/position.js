@@ -26,7 +26,7 @@ export const manAt = (men, square) => /** @type {Man} */ (men.get(square));
 /** @param {Colour} colour */
 export const other = colour => (colour === 'w' ? 'b' : 'w');
 /** @type {Record<string, (file: number, rank: number) => [number, number]>} the changes of places */
-const CHANGES = {
+export const CHANGES = {
   left: (file, rank) => [file - 1, rank],
   right: (file, rank) => [file + 1, rank],
   up: (file, rank) => [file, rank + 1],
