@@ -1,6 +1,6 @@
 // @ts-check
 // The board on the page, used by mouse, touch and keys. It passes each change to the page as new men.
-import { drawn, element, makeButton } from './elements.js';
+import { drawn, element, madeWith, makeButton } from './elements.js';
 import { KINDS } from './men.js';
 import { FILES, placeOf, squareOf } from './position.js';
 import { say, sayMan } from './words.js';
@@ -42,7 +42,8 @@ export class Board {
   }
 
   /**
-   * Puts the squares in their rows, as seen by White or by Black.
+   * Puts the squares in their rows, as seen by White or by Black, with the files' letters in the lowest row and the ranks' numbers in the left
+   * column.
    * @param {boolean} isFlipped
    */
   flip(isFlipped) {
@@ -51,23 +52,13 @@ export class Board {
     element('squares').replaceChildren(...[...ranks].map(rank => {
       const row = document.createElement('div');
       row.setAttribute('role', 'row');
-      row.append(...files.map(file => this.labelled(file, rank, ranks[7] === rank, files[0] === file)));
+      row.append(...files.map(file => {
+        const square = /** @type {HTMLElement} */ (this.squares.get(file + rank));
+        Object.assign(square.dataset, { file: ranks[7] === rank ? file : '', rank: files[0] === file ? rank : '' });
+        return square;
+      }));
       return row;
     }));
-  }
-
-  /**
-   * Returns a square, with its file's letter in the lowest row and its rank's number in the left column.
-   * @param {string} file
-   * @param {string} rank
-   * @param {boolean} isLowest
-   * @param {boolean} isLeft
-   */
-  labelled(file, rank, isLowest, isLeft) {
-    const square = /** @type {HTMLElement} */ (this.squares.get(file + rank));
-    square.dataset.file = isLowest ? file : '';
-    square.dataset.rank = isLeft ? rank : '';
-    return square;
   }
 
   /** @param {string} file @param {string} rank */
@@ -80,7 +71,11 @@ export class Board {
     made.setAttribute('role', 'gridcell');
     made.className = (FILES.indexOf(file) + Number(rank)) % 2 ? 'dark' : 'light';
     made.onclick = () => this.click(made.id);
-    made.onpointerdown = event => this.pressed(made.id, event);
+    made.onpointerdown = event => {
+      const man = this.men.get(made.id);
+      this.wasDragged = false;
+      if (man && !this.held) this.beginDrag({ man, square: made.id }, event);
+    };
     made.onfocus = () => this.focused(made);
     made.oncontextmenu = event => {
       event.preventDefault();
@@ -140,9 +135,7 @@ export class Board {
   saidRank(rank) {
     const said = [...FILES].filter(file => this.men.has(file + rank))
       .map(file => say('placed', { man: sayMan(this.men.get(file + rank) ?? ''), square: file + rank }));
-    const line = document.createElement('li');
-    line.textContent = say('rank', { rank, men: said.join(', ') || say('emptyRank') });
-    return line;
+    return madeWith('li', say('rank', { rank, men: said.join(', ') || say('emptyRank') }));
   }
 
   /** @param {Square} square @param {Man | null} man */
@@ -186,13 +179,6 @@ export class Board {
       else this.move(this.held, square);
     } else if (this.tool !== HAND) this.set(square, man === this.tool ? null : this.tool);
     else if (man) this.hold(square);
-  }
-
-  /** @param {Square} square @param {PointerEvent} event */
-  pressed(square, event) {
-    this.wasDragged = false;
-    const man = this.men.get(square);
-    if (man && !this.held) this.beginDrag({ man, square }, event);
   }
 
   /**

@@ -78,14 +78,6 @@ function keyPressed(event) {
   event.preventDefault();
 }
 
-/**
- * Ends what is said of one action when a click begins the next.
- * @param {Event} event
- */
-function clicked(event) {
-  if (/** @type {Element} */ (event.target).closest?.('button, label, select, summary')) notes.endAction();
-}
-
 function listen() {
   const area = element('text');
   area.oninput = typed;
@@ -99,7 +91,8 @@ function listen() {
   element('fen').oninput = () => notes.check();
   element('fen').onchange = fenWritten;
   addEventListener('keydown', keyPressed);
-  addEventListener('click', clicked, true);
+  // (what is said of one action ends when a click begins the next)
+  addEventListener('click', ({ target }) => /** @type {Element} */ (target).closest?.('button, label, select, summary') && notes.endAction(), true);
   addEventListener('beforeprint', fillPrint);
   addEventListener('hashchange', openLink);
   addEventListener('pagehide', storeVisit);

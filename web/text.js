@@ -2,7 +2,7 @@
 // A text of problems: reads and replaces the men and fields of one problem. The rest of the text stays byte for byte.
 // Nothing here judges a problem: the engine does.
 import { KINDS } from './men.js';
-import { fenOf } from './position.js';
+import { fenOf, menOfRanks } from './position.js';
 import { atOnce, LONG_TEXT } from './slices.js';
 
 // Text lines that are fields of the page.
@@ -238,6 +238,13 @@ const menByBlock = keptByBlock(readMenOf);
  * @param {Block} block
  */
 export const menOf = block => menByBlock.of(block);
+
+/**
+ * Returns the men of an item's diagram: from the report, or from the text if the report shows no board.
+ * @param {Item} item
+ * @param {Block | undefined} block
+ */
+export const menOfItem = ({ ranks }, block) => (ranks.length || !block ? menOfRanks(ranks) : menOf(block).men);
 
 /**
  * Reads one word after Pieces, and returns the colour of the men that follow.
@@ -499,20 +506,11 @@ function valueEdit(text, block, name, value) {
   if (field && !said) return { gone: [...emptied(field.parts.map(() => field.section), null), ...field.parts], put: [] };
   if (!said) return { gone: [], put: [] };
   if (field) return { gone: [], put: [{ ...field.parts[0], said: isLine ? line : said }] };
+  // (what follows the opening word in its line goes on the next one)
+  const end = /^[ \t\r]*(\n|$)/.test(text.slice(block.start)) ? '' : '\n';
+  if (isLine) return { gone: [], put: [{ from: block.start, to: block.start, said: `\n${line}${end}` }] };
   const bare = block.words.find(word => word.command === command);
-  return { gone: [], put: [isLine ? openingPut(text, block, line) : bare ? { from: bare.to, to: bare.to, said: ` ${said}` } : linePut(text, block, line)] };
-}
-
-/**
- * Returns what adds a text line after the word that opens the problem; what follows that word in its line goes on the next one.
- * @param {string} text
- * @param {Block} block
- * @param {string} line
- * @returns {Replacement}
- */
-function openingPut(text, { start }, line) {
-  const isLine = /^[ \t\r]*(\n|$)/.test(text.slice(start));
-  return { from: start, to: start, said: `\n${line}${isLine ? '' : '\n'}` };
+  return { gone: [], put: [bare ? { from: bare.to, to: bare.to, said: ` ${said}` } : linePut(text, block, line)] };
 }
 
 /**
@@ -525,7 +523,10 @@ function openingPut(text, { start }, line) {
 function optionsEdit(text, block, values) {
   const fields = fieldsOf(text, block);
   const set = Object.entries(values).filter(([name, value]) => value !== null && fields[name]);
-  const put = set.map(([name, value]) => valuePut(fields[name].parts, oneLine(value ?? '')));
+  const put = set.map(([name, value]) => {
+    const [{ parts: [own, first] }, said] = [fields[name], oneLine(value ?? '')];
+    return first ? { ...first, said } : { from: own.to, to: own.to, said: said && ` ${said}` };
+  });
   const gone = Object.entries(values).flatMap(([name, value]) => goneParts(fields[name], value !== null));
   const added = Object.entries(values).flatMap(([name, value]) => (value === null || fields[name] ? [] : [`${name} ${oneLine(value)}`.trim()]));
   const words = new Set(gone.map(({ part }) => part.from));
@@ -533,16 +534,6 @@ function optionsEdit(text, block, values) {
   if (place) put.push({ from: place.to, to: place.to, said: ` ${added.join(' ')}` });
   else if (added.length) put.push(linePut(text, block, `Option ${added.join(' ')}`));
   return { put, gone: [...gone.map(it => it.part), ...emptied(gone.map(it => it.section), place?.section ?? null)] };
-}
-
-/**
- * Returns what sets the value of an option, the last one of its name: its first word after the name, or a new one.
- * @param {Span[]} parts
- * @param {string} said
- * @returns {Replacement}
- */
-function valuePut([own, first], said) {
-  return first ? { ...first, said } : { from: own.to, to: own.to, said: said && ` ${said}` };
 }
 
 /**

@@ -127,19 +127,12 @@ function withBlock(act) {
 export const change = changer => withBlock(block => {
   const { men, unknown } = menOf(block);
   const changed = changer(men);
-  if (unknown.length) noteUnknown(unknown[0]);
+  const [word] = unknown;
+  const isThere = () => Boolean(blockNow() && menOf(/** @type {Block} */ (blockNow())).unknown.includes(word));
+  if (word) note(say('unknownWord', { word: word.slice(0, 40) }), isThere);
   else if (changed) setText(withMen(textNow(), block.from, changed));
   else note(say('leaves'));
 });
-
-/** @param {string} word */
-function noteUnknown(word) {
-  const isThere = () => {
-    const block = blockNow();
-    return block !== null && menOf(block).unknown.includes(word);
-  };
-  note(say('unknownWord', { word: word.slice(0, 40) }), isThere);
-}
 
 /** @param {string} name */
 export function changeBoard(name) {

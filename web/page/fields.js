@@ -47,22 +47,14 @@ function showStipulation(word, isDisabled) {
 }
 
 /**
- * Returns what a field has for the text; null removes it.
- * @param {string} name
- */
-function valueIn(name) {
-  const input = inputOf(name);
-  if (name === 'Stipulation') return stipulationOf(input.value, inputOf('Moves').value);
-  return FLAGS.includes(name) ? (input.checked ? '' : null) : input.value.trim() || null;
-}
-
-/**
- * Writes a field's value into the text.
+ * Writes a field's value into the text, or removes it.
  * @param {string} name
  */
 export function fieldChanged(name) {
   endTyping();
-  const value = valueIn(name);
+  const input = inputOf(name);
+  const said = FLAGS.includes(name) ? (input.checked ? '' : null) : input.value.trim() || null;
+  const value = name === 'Stipulation' ? stipulationOf(input.value, inputOf('Moves').value) : said;
   state.whenRead(() => {
     const block = blockNow();
     if (block) setText(withField(textNow(), block.from, name, value));

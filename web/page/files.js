@@ -67,7 +67,10 @@ async function takeMany(files) {
     if (made?.text && !read?.isUtf8) names.latin.push(file.name);
   }
   note('');
-  const isAsked = taken.length > 0 && takeProblems(joinedFiles(taken.map(it => it.made)));
+  const all = taken.map(it => it.made);
+  const isAsked = taken.length > 0 && takeProblems({
+    text: joinedTexts(all.map(it => it.text ?? '')), asksForTries: all.some(it => it.asksForTries), refutations: Math.max(...all.map(it => it.refutations)),
+  });
   const problems = taken.length ? blocksOf(textNow()).length : 0;
   const lost = taken.flatMap(({ name, made }) => made.lost.map(reason => `${name}: ${reason}`));
   note([
@@ -90,14 +93,6 @@ async function problemsIn(text) {
 
 /** @param {string} text @returns {Imported} */
 const owned = text => ({ text, lost: [], asksForTries: false, refutations: 0 });
-
-/**
- * Joins the problems of several files.
- * @param {Imported[]} all
- */
-const joinedFiles = all => ({
-  text: joinedTexts(all.map(it => it.text ?? '')), asksForTries: all.some(it => it.asksForTries), refutations: Math.max(...all.map(it => it.refutations)),
-});
 
 /**
  * Names the files that weren't read, or not as UTF-8.
@@ -129,7 +124,8 @@ function pasted(event) {
   const isField = /** @type {Element} */ (event.target).closest?.('input, select');
   const isText = event.target === element('text');
   if (isField || !text) return;
-  if (isTooLong(isText ? lengthBesideSelection() + text.length : text.length)) event.preventDefault();
+  const { from, to } = selectionNow();
+  if (isTooLong(text.length + (isText ? textNow().length - (to - from) : 0))) event.preventDefault();
   else takePasted(event, text, isText);
 }
 
@@ -151,12 +147,6 @@ function takePasted(event, text, isText) {
   else if (isText && isLongWith(text)) insertLong(text);
   else return;
   event.preventDefault();
-}
-
-/** Returns how many letters stay in the text where what is selected is replaced. */
-function lengthBesideSelection() {
-  const { from, to } = selectionNow();
-  return textNow().length - (to - from);
 }
 
 /** Returns whether the text box has more than what is selected in it. */
