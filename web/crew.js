@@ -44,20 +44,14 @@ export class Crew {
       };
       worker.onmessage = ({ data: { failed, status, bytes } }) => {
         if (failed) return fail(failed);
-        this.release(task);
+        if (this.busy.delete(task)) this.idle.push(worker);
+        this.wake();
         answer({ status, text: this.codec.decode(bytes) });
       };
       worker.onerror = fault => fail(fault.message ?? String(fault));
     });
     worker.postMessage({ ...call, text: this.codec.encode(call.text) });
     return task;
-  }
-
-  /** @param {Task} task */
-  release(task) {
-    if (!this.busy.delete(task)) return;
-    this.idle.push(task.worker);
-    this.wake();
   }
 
   /**

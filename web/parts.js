@@ -143,11 +143,6 @@ export class PhasePiece {
     return last;
   }
 
-  /** Counts the needed parts that are done. */
-  countDone() {
-    return [...this.counts.keys()].filter(number => number <= this.last).length;
-  }
-
   /** Returns the text that is new since the last call: complete solutions of parts in order, and at the end their number. */
   more() {
     let text = this.begun;

@@ -178,19 +178,16 @@ export class ReportReading {
    */
   *more() {
     for (let count = 1; !this.isOver; count++) {
-      if (this.at === this.lines.length && !this.divide()) return;
+      if (this.at === this.lines.length) {
+        const lines = this.left.split('\n');
+        this.left = lines.pop() ?? '';
+        Object.assign(this, { lines, at: 0 });
+        if (!lines.length) return;
+      }
       this.isOver = !this.take(this.lines[this.at]);
       this.at += 1;
       if (count % LINES_A_STEP === 0) yield;
     }
-  }
-
-  /** Divides what was added into lines; returns whether there are some. */
-  divide() {
-    const lines = this.left.split('\n');
-    this.left = lines.pop() ?? '';
-    Object.assign(this, { lines, at: 0 });
-    return lines.length > 0;
   }
 }
 

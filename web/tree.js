@@ -30,10 +30,6 @@ const isOpenRow = row => Boolean(row.list && !row.list.hidden);
 const openPaths = row => (isOpenRow(row) ? [pathOf(row), ...row.below.flatMap(openPaths)] : []);
 /** @param {TreeRow} row @returns {TreeRow} */
 const topOf = row => (row.parent ? topOf(row.parent) : row);
-/** @param {RowPlace} place */
-const movesTo = ({ row, index }) => [...row.path, ...row.moves.slice(0, index + 1)];
-/** @param {RowPlace} place */
-const stepsTo = ({ row, index }) => [...stepsAbove(row), ...stepsOf(row).slice(0, index + 1)];
 /**
  * Returns the rows of a list that are drawn.
  * @param {TreeRow[]} rows
@@ -350,7 +346,7 @@ export class Tree {
     const old = group.rows[index];
     const { current } = this;
     const isWalked = current !== null && topOf(current.row) === old;
-    const steps = isWalked ? stepsTo(current) : [];
+    const steps = isWalked ? [...stepsAbove(current.row), ...stepsOf(current.row).slice(0, current.index + 1)] : [];
     const hasFocus = old.line?.contains(document.activeElement);
     group.rows[index] = row;
     row.index = index;
@@ -452,8 +448,7 @@ export class Tree {
     const button = row.buttons[index];
     button.setAttribute('aria-current', 'true');
     this.bringToSight(button);
-    const moves = movesTo(this.current);
-    this.showPlace({ start: row.group.men, moves, item: row.group.item });
+    this.showPlace({ start: row.group.men, moves: [...row.path, ...row.moves.slice(0, index + 1)], item: row.group.item });
   }
 
   /**

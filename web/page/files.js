@@ -5,7 +5,7 @@ import { imported, isOfAnother } from '../importing.js';
 import { readFen } from '../position.js';
 import { LONG_TEXT } from '../slices.js';
 import { MOST_FILE_BYTES, textOfBytes } from '../store.js';
-import { blockAt, blocksOf, hasProblem, joinedTexts, NEW_PROBLEM, withFen } from '../text.js';
+import { blocksOf, hasProblem, joinedTexts, NEW_PROBLEM, withFen } from '../text.js';
 import { say } from '../words.js';
 import { isLongWith, selectionNow } from './area.js';
 import { doChore, SHORT_WORK } from './beside.js';
@@ -85,8 +85,7 @@ async function takeMany(files) {
  */
 async function problemsIn(text) {
   const fen = readFen(text);
-  const begun = blockAt(NEW_PROBLEM, 0);
-  if (fen && begun) return owned(withFen(NEW_PROBLEM, begun.from, fen));
+  if (fen) return owned(withFen(NEW_PROBLEM, 0, fen));
   if (text.length < LONG_TEXT && isOfAnother(text)) return new Promise(take => { doChore('import', { text }, take, () => take(null)); });
   return hasProblem(text) ? owned(text) : null;
 }
