@@ -637,7 +637,7 @@ class ManyReasons(unittest.TestCase):
     def test_notes(self) -> None:
         many = self.told("", *["Option Try"] * 2000).splitlines()
         self.assertEqual(len(many), 101)
-        self.assertTrue(many[-1].endswith(", line 103, problem 1: and 1900 more"), many[-1])
+        self.assertTrue(many[-1].endswith(", line 104, problem 1: and 1900 more"), many[-1])
 
 
 class WithoutPyYaml(unittest.TestCase):
