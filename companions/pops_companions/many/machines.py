@@ -34,7 +34,7 @@ FAILURES = 2
 ROUNDS_WITHOUT_REPORT = 3
 PROBE = b"BeginProblem Pieces White Kg6 Ra1 Black Kg8 Stipulation #1 EndProblem"
 # Only where a machine hangs: the probe takes a moment, but a busy machine may need many times that.
-SECONDS_OF_A_PROBE = 300.0
+SECONDS_OF_A_PROBE = SECONDS_OF_A_PROBE_HERE = 300.0
 # The most bytes that a machine may write of the probe, whose report has some hundred.
 MOST_OF_A_PROBE = 1 << 20
 # The program is $0; the one word after it holds number, seconds and text of each input in turn.
@@ -288,10 +288,11 @@ class _Probe:
 def _wanted_of(pops: Program, parts: Optional[PartProgram]) -> list[bytes]:
     """Returns what the programs here report of the probe. MachinesError where one fails."""
     try:
-        wanted = [pops.report(PROBE)]
+        wanted = [pops.report(PROBE, SECONDS_OF_A_PROBE_HERE)]
         if parts is not None:
             task = tasks_of([Source(None, PROBE)])[0]
-            wanted.append(parts.report(Part(task, "play", 1, parts.depth)))
+            part = Part(task, "play", 1, parts.depth)
+            wanted.append(parts.report(part, SECONDS_OF_A_PROBE_HERE))
         return wanted
     except RunError as error:
         raise MachinesError(str(error)) from None
