@@ -24,7 +24,7 @@ from pops_companions.many.parallel import Ended, Jobs, Parallel, machine_of
 from pops_companions.many.part_program import PartProgram
 from pops_companions.many.parts import Part
 from pops_companions.many.program import FAULTY, SOUND, Program, RunError
-from pops_companions.many.tasks import UNFINISHED, Result, Source, Task, is_whole, tasks_of
+from pops_companions.many.tasks import UNFINISHED, Result, Source, Task, has_ended, tasks_of
 
 # A longer problem would not fit into a word of a command line; it is solved on this machine.
 _LONGEST_WORD = 60_000
@@ -214,7 +214,7 @@ class _Round:
         bundle = self._bundles[place]
         if len(bundle) > 1:
             self._take_bundle(bundle, status, report)
-        elif status == UNFINISHED or (status in (SOUND, FAULTY) and is_whole(report)):
+        elif status == UNFINISHED or has_ended(status, report):
             try:
                 self._settle(self._program.told_anew(bundle[0], status, report))
             except RunError:

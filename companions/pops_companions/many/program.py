@@ -29,7 +29,7 @@ from pops_companions.many.tasks import (
     UNFINISHED,
     Result,
     Task,
-    is_whole,
+    has_ended,
     whole_lines,
 )
 from pops_companions.places import COMPANIONS, REPOSITORY, folder_above
@@ -314,7 +314,7 @@ class Program(Runs):
 
     def _of(self, run: Outcome) -> tuple[int, bytes]:
         """Status and report of a run on one problem; UNFINISHED where its time was over."""
-        if run.status in (SOUND, FAULTY) and is_whole(run.output):
+        if has_ended(run.status, run.output):
             return run.status, run.output
         if not run.in_time:
             return UNFINISHED, run.output
@@ -325,7 +325,7 @@ class Program(Runs):
         size = os.fstat(file.fileno()).st_size
         end = os.pread(file.fileno(), _PIECE, max(size - _PIECE, 0))
         status, seconds = run.status, None
-        if run.status not in (SOUND, FAULTY) or not end.endswith(lines.ITEM_END):
+        if run.status != SOUND or not end.endswith(lines.ITEM_END):
             if run.in_time:
                 raise RunError(self._reason(run.status, run.errors))
             status, seconds = UNFINISHED, self.seconds
