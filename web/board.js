@@ -76,7 +76,9 @@ export class Board {
       this.wasDragged = false;
       if (man && !this.held) this.beginDrag({ man, square: made.id }, event);
     };
-    made.onfocus = () => this.focused(made);
+    made.onfocus = () => {
+      for (const it of this.squares.values()) it.tabIndex = it === made ? 0 : -1;
+    };
     made.oncontextmenu = event => {
       event.preventDefault();
       this.set(made.id, null);
@@ -107,12 +109,6 @@ export class Board {
     for (const it of element('men').children) it.setAttribute('aria-pressed', String(it.dataset.tool === tool));
   }
 
-  /** @param {HTMLElement} square */
-  focused(square) {
-    for (const it of element('squares').querySelectorAll('button')) if (it.tabIndex === 0) it.tabIndex = -1;
-    square.tabIndex = 0;
-  }
-
   /**
    * Shows these men, and marks the squares of TRACE.
    * @param {Men} men
@@ -128,14 +124,11 @@ export class Board {
       it.classList.toggle('trace', trace.includes(it.id));
       it.setAttribute('aria-label', say('square', { square: it.id, man: man ? sayMan(man) : say('empty') }));
     }
-    element('ranks').replaceChildren(...[...'87654321'].map(rank => this.saidRank(rank)));
-  }
-
-  /** @param {string} rank */
-  saidRank(rank) {
-    const said = [...FILES].filter(file => this.men.has(file + rank))
-      .map(file => say('placed', { man: sayMan(this.men.get(file + rank) ?? ''), square: file + rank }));
-    return madeWith('li', say('rank', { rank, men: said.join(', ') || say('emptyRank') }));
+    element('ranks').replaceChildren(...[...'87654321'].map(rank => {
+      const placed = [...FILES].map(file => file + rank).filter(square => men.has(square));
+      const said = placed.map(square => say('placed', { man: sayMan(men.get(square) ?? ''), square }));
+      return madeWith('li', say('rank', { rank, men: said.join(', ') || say('emptyRank') }));
+    }));
   }
 
   /** @param {Square} square @param {Man | null} man */
@@ -197,25 +190,17 @@ export class Board {
     const { drag } = this;
     if (!drag) return;
     const isFar = Math.hypot(event.clientX - drag.x, event.clientY - drag.y) > DRAG_PIXELS;
-    if (!drag.ghost && isFar) drag.ghost = this.madeGhost(drag.man);
+    if (!drag.ghost && isFar) {
+      drag.ghost = Object.assign(document.createElement('div'), { id: 'ghost' });
+      drag.ghost.append(drawn(drag.man));
+      document.body.append(drag.ghost);
+    }
     if (!drag.ghost) return;
     drag.ghost.style.left = `${event.clientX}px`;
     drag.ghost.style.top = `${event.clientY}px`;
     const aim = this.squareUnder(event);
     for (const it of element('squares').querySelectorAll('.aim')) it.classList.remove('aim');
     if (aim) element(aim).classList.add('aim');
-  }
-
-  /**
-   * Makes the man that follows the pointer.
-   * @param {Man} man
-   */
-  madeGhost(man) {
-    const ghost = document.createElement('div');
-    ghost.id = 'ghost';
-    ghost.append(drawn(man));
-    document.body.append(ghost);
-    return ghost;
   }
 
   /** @param {PointerEvent} event */

@@ -163,9 +163,6 @@ function piecesOf(text, { from, to }, marks) {
   return pieces.filter(piece => piece.text);
 }
 
-/** @param {string} word */
-const optionOf = word => (companions.unread(word) ?? companions.unread(companions.foreign(word)?.english ?? ''))?.name;
-
 /**
  * Returns the most refutations of a try by the options of a text, `Try` and `Defence N`; 0 if none says so.
  * @param {string} text
@@ -173,7 +170,7 @@ const optionOf = word => (companions.unread(word) ?? companions.unread(companion
 function refutationsIn(text) {
   const words = wordsOf(text);
   return words.reduce((most, { word }, at) => {
-    const name = optionOf(word);
+    const name = (companions.unread(word) ?? companions.unread(companions.foreign(word)?.english ?? ''))?.name;
     return Math.max(most, name === 'Try' ? 1 : name === 'Defence' ? Number(/^[0-9]+$/.exec(words[at + 1]?.word ?? '') ?? 0) : 0);
   }, 0);
 }

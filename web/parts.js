@@ -147,22 +147,18 @@ export class PhasePiece {
   more() {
     let text = this.begun;
     this.begun = '';
-    while (this.solutions.has(this.next) && !this.isCut && this.found < this.limit) text += this.taken();
+    for (let part; !this.isCut && this.found < this.limit && (part = this.solutions.get(this.next)); this.next++) {
+      const shown = part.all.slice(0, this.limit - this.found);
+      this.solutions.delete(this.next);
+      // (a limit reached before an incomplete solution completes the phase)
+      this.isCut = part.isCut && shown.length === part.all.length;
+      this.found += shown.length;
+      text += shown.join('');
+    }
     if (this.isWhole || this.isCut || this.next <= this.last) return text;
     this.isWhole = true;
     if (!this.isPossible) return text;
     return `${text}solutions: ${this.found}${this.found === this.limit ? ', stopped' : ''}\n`;
-  }
-
-  taken() {
-    const { all, isCut } = /** @type {PartSolutions} */ (this.solutions.get(this.next));
-    const shown = all.slice(0, this.limit - this.found);
-    this.solutions.delete(this.next);
-    this.next += 1;
-    // (a limit reached before an incomplete solution completes the phase)
-    this.isCut = isCut && shown.length === all.length;
-    this.found += shown.length;
-    return shown.join('');
   }
 }
 

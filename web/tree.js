@@ -232,15 +232,6 @@ export class Tree {
       if (index < box.groups.length) this.growPhase(box.groups[index], phase, /** @type {SoundItem} */ (item));
       else box.append(...this.drawnPhase(phase, /** @type {SoundItem} */ (item), box));
     });
-    this.growComparison(box, item);
-  }
-
-  /**
-   * Shows the box of phases side by side once there are some.
-   * @param {any} box
-   * @param {Item} item
-   */
-  growComparison(box, item) {
     if (item.asked?.isHelp || !isComparable(this.phasesOf(box))) return;
     box.append(box.compared);
     if (box.compared.open) this.fillComparison(box);
