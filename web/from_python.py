@@ -80,7 +80,7 @@ OPERATORS: dict[type, str] = {
     ast.Sub: "({} - {})", ast.Div: "({} / {})", ast.Mod: "({} % {})", ast.LShift: "({} << {})", ast.FloorDiv: "Math.floor({} / {})",
     ast.Add: "py.plus({}, {})", ast.Mult: "py.times({}, {})", ast.BitAnd: "py.common({}, {})", ast.BitOr: "py.joined({}, {})",
 }
-# Those with a number or a text, which need no function.
+# Operators of a number or a text, which need no function.
 PLAIN_OPERATORS: dict[type, str] = {ast.Add: "({} + {})", ast.Eq: "({} === {})", ast.NotEq: "({} !== {})"}
 COMPREHENSIONS: dict[type, str] = {ast.GeneratorExp: "{}", ast.ListComp: "[...{}]", ast.SetComp: "py.set({})", ast.DictComp: "py.dict({})"}
 STATEMENTS: dict[type, list[str]] = {ast.Assert: [], ast.Pass: [], ast.Break: ["break;"], ast.Continue: ["continue;"]}
