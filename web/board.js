@@ -1,6 +1,6 @@
 // @ts-check
 // The board on the page, used by mouse, touch and keys. It passes each change to the page as new men.
-import { drawn, element, makeButton } from './elements.js';
+import { drawn, element, madeWith, makeButton } from './elements.js';
 import { KINDS } from './men.js';
 import { FILES, placeOf, squareOf } from './position.js';
 import { say, sayMan } from './words.js';
@@ -42,7 +42,8 @@ export class Board {
   }
 
   /**
-   * Puts the squares in their rows, as seen by White or by Black.
+   * Puts the squares in their rows, as seen by White or by Black, with the files' letters in the lowest row and the ranks' numbers in the left
+   * column.
    * @param {boolean} isFlipped
    */
   flip(isFlipped) {
@@ -51,23 +52,13 @@ export class Board {
     element('squares').replaceChildren(...[...ranks].map(rank => {
       const row = document.createElement('div');
       row.setAttribute('role', 'row');
-      row.append(...files.map(file => this.labelled(file, rank, ranks[7] === rank, files[0] === file)));
+      row.append(...files.map(file => {
+        const square = /** @type {HTMLElement} */ (this.squares.get(file + rank));
+        Object.assign(square.dataset, { file: ranks[7] === rank ? file : '', rank: files[0] === file ? rank : '' });
+        return square;
+      }));
       return row;
     }));
-  }
-
-  /**
-   * Returns a square, with its file's letter in the lowest row and its rank's number in the left column.
-   * @param {string} file
-   * @param {string} rank
-   * @param {boolean} isLowest
-   * @param {boolean} isLeft
-   */
-  labelled(file, rank, isLowest, isLeft) {
-    const square = /** @type {HTMLElement} */ (this.squares.get(file + rank));
-    square.dataset.file = isLowest ? file : '';
-    square.dataset.rank = isLeft ? rank : '';
-    return square;
   }
 
   /** @param {string} file @param {string} rank */
@@ -80,8 +71,14 @@ export class Board {
     made.setAttribute('role', 'gridcell');
     made.className = (FILES.indexOf(file) + Number(rank)) % 2 ? 'dark' : 'light';
     made.onclick = () => this.click(made.id);
-    made.onpointerdown = event => this.pressed(made.id, event);
-    made.onfocus = () => this.focused(made);
+    made.onpointerdown = event => {
+      const man = this.men.get(made.id);
+      this.wasDragged = false;
+      if (man && !this.held) this.beginDrag({ man, square: made.id }, event);
+    };
+    made.onfocus = () => {
+      for (const it of this.squares.values()) it.tabIndex = it === made ? 0 : -1;
+    };
     made.oncontextmenu = event => {
       event.preventDefault();
       this.set(made.id, null);
@@ -112,12 +109,6 @@ export class Board {
     for (const it of element('men').children) it.setAttribute('aria-pressed', String(it.dataset.tool === tool));
   }
 
-  /** @param {HTMLElement} square */
-  focused(square) {
-    for (const it of element('squares').querySelectorAll('button')) if (it.tabIndex === 0) it.tabIndex = -1;
-    square.tabIndex = 0;
-  }
-
   /**
    * Shows these men, and marks the squares of TRACE.
    * @param {Men} men
@@ -133,16 +124,11 @@ export class Board {
       it.classList.toggle('trace', trace.includes(it.id));
       it.setAttribute('aria-label', say('square', { square: it.id, man: man ? sayMan(man) : say('empty') }));
     }
-    element('ranks').replaceChildren(...[...'87654321'].map(rank => this.saidRank(rank)));
-  }
-
-  /** @param {string} rank */
-  saidRank(rank) {
-    const said = [...FILES].filter(file => this.men.has(file + rank))
-      .map(file => say('placed', { man: sayMan(this.men.get(file + rank) ?? ''), square: file + rank }));
-    const line = document.createElement('li');
-    line.textContent = say('rank', { rank, men: said.join(', ') || say('emptyRank') });
-    return line;
+    element('ranks').replaceChildren(...[...'87654321'].map(rank => {
+      const placed = [...FILES].map(file => file + rank).filter(square => men.has(square));
+      const said = placed.map(square => say('placed', { man: sayMan(men.get(square) ?? ''), square }));
+      return madeWith('li', say('rank', { rank, men: said.join(', ') || say('emptyRank') }));
+    }));
   }
 
   /** @param {Square} square @param {Man | null} man */
@@ -188,13 +174,6 @@ export class Board {
     else if (man) this.hold(square);
   }
 
-  /** @param {Square} square @param {PointerEvent} event */
-  pressed(square, event) {
-    this.wasDragged = false;
-    const man = this.men.get(square);
-    if (man && !this.held) this.beginDrag({ man, square }, event);
-  }
-
   /**
    * Starts to drag a man, from a square or from the palette.
    * @param {{ man: Man, square: Square | null }} dragged
@@ -211,25 +190,17 @@ export class Board {
     const { drag } = this;
     if (!drag) return;
     const isFar = Math.hypot(event.clientX - drag.x, event.clientY - drag.y) > DRAG_PIXELS;
-    if (!drag.ghost && isFar) drag.ghost = this.madeGhost(drag.man);
+    if (!drag.ghost && isFar) {
+      drag.ghost = Object.assign(document.createElement('div'), { id: 'ghost' });
+      drag.ghost.append(drawn(drag.man));
+      document.body.append(drag.ghost);
+    }
     if (!drag.ghost) return;
     drag.ghost.style.left = `${event.clientX}px`;
     drag.ghost.style.top = `${event.clientY}px`;
     const aim = this.squareUnder(event);
     for (const it of element('squares').querySelectorAll('.aim')) it.classList.remove('aim');
     if (aim) element(aim).classList.add('aim');
-  }
-
-  /**
-   * Makes the man that follows the pointer.
-   * @param {Man} man
-   */
-  madeGhost(man) {
-    const ghost = document.createElement('div');
-    ghost.id = 'ghost';
-    ghost.append(drawn(man));
-    document.body.append(ghost);
-    return ghost;
   }
 
   /** @param {PointerEvent} event */

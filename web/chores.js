@@ -3,9 +3,8 @@
 // script beside it.
 import { imported } from './importing.js';
 import { beyondLatex, givenOf, jsonOf, latexOf, sheetOf, shortText, yamlOf } from './outputs.js';
-import { menOfRanks } from './position.js';
 import { itemsOf } from './report.js';
-import { blocksOf, menOf } from './text.js';
+import { blocksOf, menOfItem } from './text.js';
 import { language, say, speak } from './words.js';
 
 // The parts of the page that it needs.
@@ -21,35 +20,25 @@ function wantedItems({ report, numbers }) {
 }
 
 /**
- * Writes the objects of items, one per line.
- * @param {ChoreGiven} it
- */
-function linesOfJson(it) {
-  const given = givenOf(it.text);
-  return wantedItems(it).map(item => `${jsonOf(item, given[item.number - 1])}\n`).join('');
-}
-
-/** @param {ChoreGiven} it */
-function latexWithLetters(it) {
-  const made = latexOf(it.text, wantedItems(it));
-  return { made, letters: beyondLatex(made) };
-}
-
-/**
  * Writes the solution of the one item that is wanted.
  * @param {ChoreGiven} it
  */
 function shortOfItem(it) {
   const [item] = /** @type {SoundItem[]} */ (wantedItems(it));
-  const block = blocksOf(it.text)[item.number - 1];
-  return shortText(item, item.ranks.length || !block ? menOfRanks(item.ranks) : menOf(block).men);
+  return shortText(item, menOfItem(item, blocksOf(it.text)[item.number - 1]));
 }
 
 /** @type {Record<string, (given: ChoreGiven) => any>} */
 const CHORES = {
   import: ({ text }) => imported(text),
-  json: linesOfJson,
-  latex: latexWithLetters,
+  json: it => {
+    const given = givenOf(it.text);
+    return wantedItems(it).map(item => `${jsonOf(item, given[item.number - 1])}\n`).join('');
+  },
+  latex: it => {
+    const made = latexOf(it.text, wantedItems(it));
+    return { made, letters: beyondLatex(made) };
+  },
   page: it => sheetOf(wantedItems(it), say('sheet'), givenOf(it.text)),
   short: shortOfItem,
   yaml: it => yamlOf(it.text, wantedItems(it)),

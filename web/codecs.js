@@ -12,7 +12,11 @@ const BYTES_A_CALL = 1 << 13;
 
 /** @type {Codec} each byte a letter, so that any bytes are a text */
 export const LETTERS = {
-  encode: text => Uint8Array.from(text, letter => letter.charCodeAt(0)),
+  encode: text => {
+    const bytes = new Uint8Array(text.length);
+    for (let at = 0; at < text.length; at++) bytes[at] = text.charCodeAt(at);
+    return bytes;
+  },
   decode: bytes => {
     let text = '';
     for (let at = 0; at < bytes.length; at += BYTES_A_CALL) text += String.fromCharCode(...bytes.subarray(at, at + BYTES_A_CALL));

@@ -15,12 +15,6 @@ const firstSaid = row => (row.word ? say(`below-${row.word}`) : labelOf(row.move
 const nameOfMove = ({ from, to, promotion, castling }) => castling ?? from + to + (promotion ?? '');
 
 /**
- * Makes a name of an answer that is the same wherever the man comes from.
- * @param {Move} move
- */
-const nameOfAnswer = ({ kind, to, promotion, castling }) => castling ?? kind + to + (promotion ?? '');
-
-/**
  * Makes a column of a first move: its threat, and the replies with White's moves, or that they refute.
  * @template {Row} T
  * @param {string} kind
@@ -62,7 +56,9 @@ function cellOf({ replies, refutations }, name) {
  */
 function withChanges(cells, columns) {
   const place = columns.findIndex(it => it.kind === 'play');
-  const names = cells.map(({ rows, said }) => (said[0] === '!' ? '' : rows.map(it => nameOfAnswer(it.moves[0])).sort().join()));
+  // (wherever the man comes from)
+  const names = cells.map(({ rows, said }) => (said[0] === '!' ? '' : rows.map(({ moves: [{ kind, to, promotion, castling }] }) => (
+    castling ?? kind + to + (promotion ?? ''))).sort().join()));
   const isOther = names.map(name => Boolean(name && names[place]) && name !== names[place]);
   const hasChanges = isOther.some(Boolean);
   return cells.map((cell, at) => ({ ...cell, isChanged: isOther[at] || (at === place && hasChanges) }));

@@ -44,15 +44,6 @@ function contentOf(text, block) {
 export const contentAt = (text, number) => contentOf(text, blocksOf(text)[number - 1]);
 
 /**
- * Names a problem for the list: its number, then title and stipulation, or stipulation and men.
- * @param {Content} problem
- */
-function nameOfProblem({ number, title, asked, men }) {
-  const name = [title, asked, title ? '' : sidesOf(men).trim()].filter(Boolean).join(' · ');
-  return `${number}. ${name.slice(0, LONGEST_NAME)}`;
-}
-
-/**
  * Returns the place of a problem among twins, by the label of its title; 0 without one.
  * @param {Content} problem
  * @returns {number}
@@ -144,7 +135,9 @@ function* shownContents(text, own) {
   const numbers = listedNumbers(blocks.length, own);
   for (const number of numbers) {
     yield* readProblem(text, blocks[number - 1]);
-    names.push(nameOfProblem(contentAt(text, number)));
+    const { title, asked, men } = contentAt(text, number);
+    const name = [title, asked, title ? '' : sidesOf(men).trim()].filter(Boolean).join(' · ');
+    names.push(`${number}. ${name.slice(0, LONGEST_NAME)}`);
     yield;
   }
   const list = element('problems');

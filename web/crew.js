@@ -37,35 +37,21 @@ export class Crew {
     const task = /** @type {Task} */ ({ worker });
     this.busy.add(task);
     task.answer = new Promise((answer, refuse) => {
-      worker.onmessage = ({ data }) => {
-        if (data.failed) this.fail(task, data.failed, refuse);
-        else {
-          this.release(task);
-          answer({ status: data.status, text: this.codec.decode(data.bytes) });
-        }
+      // (the memory of a failed worker is in an unknown state: it gets no other call)
+      const fail = (/** @type {string} */ fault) => {
+        this.drop(task);
+        refuse(new Error(fault));
       };
-      worker.onerror = fault => this.fail(task, fault.message ?? String(fault), refuse);
+      worker.onmessage = ({ data: { failed, status, bytes } }) => {
+        if (failed) return fail(failed);
+        if (this.busy.delete(task)) this.idle.push(worker);
+        this.wake();
+        answer({ status, text: this.codec.decode(bytes) });
+      };
+      worker.onerror = fault => fail(fault.message ?? String(fault));
     });
     worker.postMessage({ ...call, text: this.codec.encode(call.text) });
     return task;
-  }
-
-  /** @param {Task} task */
-  release(task) {
-    if (!this.busy.delete(task)) return;
-    this.idle.push(task.worker);
-    this.wake();
-  }
-
-  /**
-   * The memory of a failed worker is in an unknown state: it gets no other call.
-   * @param {Task} task
-   * @param {string} fault
-   * @param {(fault: Error) => void} refuse
-   */
-  fail(task, fault, refuse) {
-    this.drop(task);
-    refuse(new Error(fault));
   }
 
   /**

@@ -24,6 +24,14 @@ export function partText(id) {
   return element(id).textContent ?? '';
 }
 
+/** @param {string} script */
+export function workerOf(script) {
+  const source = URL.createObjectURL(new Blob([script], { type: 'text/javascript' }));
+  const made = new Worker(source);
+  URL.revokeObjectURL(source);
+  return made;
+}
+
 /** @param {Man} man */
 export function drawn(man) {
   const drawing = document.createElementNS(SHAPE, 'svg');

@@ -118,9 +118,8 @@ export function* explainFault(text, { number, fault, place: known }) {
  */
 function aloneOf(text, number) {
   const problems = problemsOf(text);
-  const [before, own] = [problems[number - 2]?.tokens.at(-1), problems[number - 1]];
-  const last = own?.isClosed ? own.tokens.at(-1) : null;
-  const [from, to] = [before?.to ?? 0, last?.to ?? text.length];
+  const [before, own] = [problems[number - 2]?.closing, problems[number - 1]?.closing];
+  const [from, to] = [before?.to ?? 0, own?.to ?? text.length];
   const head = before ? `BeginProblem ${before.word}` : '';
   return { from, to, alone: head + text.slice(from, Math.min(to, from + MOST_LETTERS)), place: before ? 2 : 1, start: from - head.length };
 }
@@ -164,9 +163,6 @@ function piecesOf(text, { from, to }, marks) {
   return pieces.filter(piece => piece.text);
 }
 
-/** @param {string} word */
-const optionOf = word => (companions.unread(word) ?? companions.unread(companions.foreign(word)?.english ?? ''))?.name;
-
 /**
  * Returns the most refutations of a try by the options of a text, `Try` and `Defence N`; 0 if none says so.
  * @param {string} text
@@ -174,7 +170,7 @@ const optionOf = word => (companions.unread(word) ?? companions.unread(companion
 function refutationsIn(text) {
   const words = wordsOf(text);
   return words.reduce((most, { word }, at) => {
-    const name = optionOf(word);
+    const name = (companions.unread(word) ?? companions.unread(companions.foreign(word)?.english ?? ''))?.name;
     return Math.max(most, name === 'Try' ? 1 : name === 'Defence' ? Number(/^[0-9]+$/.exec(words[at + 1]?.word ?? '') ?? 0) : 0);
   }, 0);
 }

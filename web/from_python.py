@@ -75,13 +75,21 @@ METHODS = frozenset(
 # Methods of Python's patterns and of documents, which objects of JavaScript have by the same names.
 METHODS_ALIKE = frozenset("end findall finditer fullmatch group groups match node search start sub".split())
 OPERATORS: dict[type, str] = {
-    ast.Lt: "<", ast.LtE: "<=", ast.Gt: ">", ast.GtE: ">=", ast.Is: "===", ast.IsNot: "!==", ast.Sub: "-", ast.Div: "/", ast.Mod: "%", ast.LShift: "<<",
+    ast.Lt: "({} < {})", ast.LtE: "({} <= {})", ast.Gt: "({} > {})", ast.GtE: "({} >= {})", ast.Is: "({} === {})", ast.IsNot: "({} !== {})",
+    ast.Eq: "py.eq({}, {})", ast.NotEq: "!py.eq({}, {})", ast.In: "py.has({1}, {0})", ast.NotIn: "!py.has({1}, {0})",
+    ast.Sub: "({} - {})", ast.Div: "({} / {})", ast.Mod: "({} % {})", ast.LShift: "({} << {})", ast.FloorDiv: "Math.floor({} / {})",
+    ast.Add: "py.plus({}, {})", ast.Mult: "py.times({}, {})", ast.BitAnd: "py.common({}, {})", ast.BitOr: "py.joined({}, {})",
 }
-RUN_BY_PYTHON: dict[type, str] = {ast.Add: "plus", ast.Mult: "times", ast.BitAnd: "common", ast.BitOr: "joined"}
+# Operators of a number or a text, which need no function.
+PLAIN_OPERATORS: dict[type, str] = {ast.Add: "({} + {})", ast.Eq: "({} === {})", ast.NotEq: "({} !== {})"}
+COMPREHENSIONS: dict[type, str] = {ast.GeneratorExp: "{}", ast.ListComp: "[...{}]", ast.SetComp: "py.set({})", ast.DictComp: "py.dict({})"}
+STATEMENTS: dict[type, list[str]] = {ast.Assert: [], ast.Pass: [], ast.Break: ["break;"], ast.Continue: ["continue;"]}
 # Functions whose result is true or false.
 TESTS = frozenset("any all isinstance bool endswith isalnum isalpha isascii isdecimal isdigit islower isupper startswith".split())
 
 Function = Union[ast.FunctionDef, ast.Lambda]
+# The names of arguments, and whether others are taken too.
+Signature = tuple[list[str], bool]
 Comprehension = Union[ast.ListComp, ast.SetComp, ast.DictComp, ast.GeneratorExp]
 
 
@@ -224,8 +232,18 @@ def decorators_of(node: Union[ast.FunctionDef, ast.ClassDef]) -> set[str]:
     return {ast.unparse(it).split("(")[0] for it in node.decorator_list}
 
 
-def fields_of(node: ast.ClassDef) -> list[ast.AnnAssign]:
-    return [it for it in node.body if isinstance(it, ast.AnnAssign) and isinstance(it.target, ast.Name)]
+def fields_of(node: ast.ClassDef) -> dict[str, Optional[ast.expr]]:
+    """Returns the fields of a class, with the values that they have if they aren't given."""
+    return {it.target.id: it.value for it in node.body if isinstance(it, ast.AnnAssign) and isinstance(it.target, ast.Name)}
+
+
+def signature(node: Union[ast.FunctionDef, ast.ClassDef]) -> Signature:
+    """Returns the names of arguments without `self`, of a class those with which it is called, and whether others are taken too."""
+    if isinstance(node, ast.ClassDef):
+        begins = [it for it in node.body if isinstance(it, ast.FunctionDef) and it.name == "__init__"]
+        return signature(begins[0]) if begins else ([*fields_of(node)], False)
+    args = node.args
+    return [it.arg for it in (*args.posonlyargs, *args.args, *args.kwonlyargs) if it.arg != "self"], bool(args.kwarg)
 
 
 def is_plain(node: ast.expr) -> bool:
@@ -349,18 +367,17 @@ class Writer:
         return f"!{self.test(node.operand)}" if isinstance(node.op, ast.Not) else f"-{self.value(node.operand)}"
 
     def value_BinOp(self, node: ast.BinOp) -> str:
-        one, two = self.value(node.left), self.value(node.right)
-        if isinstance(node.op, ast.Add) and (is_plain(node.left) or is_plain(node.right)):
-            return f"({one} + {two})"
         if isinstance(node.op, ast.Mod) and is_plain(node.left):
-            return f"py.percent({one}, {two})"
-        if type(node.op) in RUN_BY_PYTHON:
-            return f"py.{RUN_BY_PYTHON[type(node.op)]}({one}, {two})"
-        if isinstance(node.op, ast.FloorDiv):
-            return f"Math.floor({one} / {two})"
-        if type(node.op) not in OPERATORS:
-            raise self.fail(node, type(node.op).__name__)
-        return f"({one} {OPERATORS[type(node.op)]} {two})"
+            return f"py.percent({self.value(node.left)}, {self.value(node.right)})"
+        return self.operated(node.op, node.left, node.right)
+
+    def operated(self, op: Union[ast.operator, ast.cmpop], left: ast.expr, right: ast.expr) -> str:
+        form = OPERATORS.get(type(op))
+        if form is None:
+            raise self.fail(left, type(op).__name__)
+        if is_plain(left) or is_plain(right):
+            form = PLAIN_OPERATORS.get(type(op), form)
+        return form.format(self.value(left), self.value(right))
 
     def value_BoolOp(self, node: ast.BoolOp) -> str:
         is_or = isinstance(node.op, ast.Or)
@@ -391,18 +408,8 @@ class Writer:
 
     def value_Compare(self, node: ast.Compare) -> str:
         sides = [node.left, *node.comparators]
-        found = [self.compared(op, one, two) for op, one, two in zip(node.ops, sides, sides[1:])]
+        found = [self.operated(op, one, two) for op, one, two in zip(node.ops, sides, sides[1:])]
         return found[0] if len(found) == 1 else f"({' && '.join(found)})"
-
-    def compared(self, op: ast.cmpop, left: ast.expr, right: ast.expr) -> str:
-        one, two = self.value(left), self.value(right)
-        if isinstance(op, (ast.Eq, ast.NotEq)) and (is_plain(left) or is_plain(right)):
-            return f"({one} {'===' if isinstance(op, ast.Eq) else '!=='} {two})"
-        if isinstance(op, (ast.Eq, ast.NotEq)):
-            return f"{'' if isinstance(op, ast.Eq) else '!'}py.eq({one}, {two})"
-        if isinstance(op, (ast.In, ast.NotIn)):
-            return f"{'' if isinstance(op, ast.In) else '!'}py.has({two}, {one})"
-        return f"({one} {OPERATORS[type(op)]} {two})"
 
     def value_Lambda(self, node: ast.Lambda) -> str:
         with_names = set(arguments_of(node))
@@ -422,16 +429,9 @@ class Writer:
             said.extend(f"if ({self.test(it)})" for it in loop.ifs)
         one = f"[{self.value(node.key)}, {self.value(node.value)}]" if isinstance(node, ast.DictComp) else self.value(node.elt)
         del self.scopes[before:]
-        return f"(function* () {{ {' '.join(said)} yield {one}; }})()"
+        return COMPREHENSIONS[type(node)].format(f"(function* () {{ {' '.join(said)} yield {one}; }})()")
 
-    def value_ListComp(self, node: ast.ListComp) -> str:
-        return f"[...{self.value_GeneratorExp(node)}]"
-
-    def value_SetComp(self, node: ast.SetComp) -> str:
-        return f"py.set({self.value_GeneratorExp(node)})"
-
-    def value_DictComp(self, node: ast.DictComp) -> str:
-        return f"py.dict({self.value_GeneratorExp(node)})"
+    value_ListComp = value_SetComp = value_DictComp = value_GeneratorExp
 
     # Calls.
 
@@ -447,10 +447,10 @@ class Writer:
             made = self.value(function)
             if any(it.arg is None for it in node.keywords):
                 return f"py.record({made}, {self.arguments(node, None)})"
-            said = self.arguments(node, self.signature(definition))
+            said = self.arguments(node, signature(definition))
             return f"{made}.of({said})" if bases & {"Enum", "IntEnum"} else f"new {made}({said})"
         if isinstance(definition, ast.FunctionDef):
-            return f"{self.value(function)}({self.arguments(node, definition.args)})"
+            return f"{self.value(function)}({self.arguments(node, signature(definition))})"
         if isinstance(function, ast.Attribute) and place is None:
             if function.attr in METHODS:
                 said = self.arguments(node, None)
@@ -472,18 +472,6 @@ class Writer:
             said[1:] = [f"py.joined({said[1]}, py.re.ASCII)" if said[1:] else "py.re.ASCII"]
         return f"py.re.compile({', '.join(said)})"
 
-    def signature(self, node: ast.ClassDef) -> ast.arguments:
-        """Returns the arguments with which a class is called."""
-        for it in node.body:
-            if isinstance(it, ast.FunctionDef) and it.name == "__init__":
-                return self.without_self(it.args)
-        names = [ast.arg(it.target.id) for it in fields_of(node) if isinstance(it.target, ast.Name)]
-        return ast.arguments(posonlyargs=[], args=names, kwonlyargs=[], kw_defaults=[], defaults=[])
-
-    def without_self(self, args: ast.arguments) -> ast.arguments:
-        return ast.arguments(posonlyargs=[], args=args.args[1:], vararg=args.vararg, kwonlyargs=args.kwonlyargs, kw_defaults=[], kwarg=args.kwarg,
-                             defaults=[])
-
     def members(self) -> Iterator[ast.stmt]:
         """Yields methods and fields of our classes."""
         for source in self.program.sources.values():
@@ -494,27 +482,25 @@ class Writer:
         """Returns whether a class of ours has a method, or a field that can be called, with this name."""
         return any(name == getattr(it, "name", "") or isinstance(it, ast.AnnAssign) and name in names_in(it.target) for it in self.members())
 
-    def method(self, name: str) -> Optional[ast.arguments]:
+    def method(self, name: str) -> Optional[Signature]:
         """Returns the arguments of a method that only one of our classes has."""
         found = [it for it in self.members() if isinstance(it, ast.FunctionDef) and it.name == name]
-        return self.without_self(found[0].args) if len(found) == 1 and not decorators_of(found[0]) else None
+        return signature(found[0]) if len(found) == 1 and not decorators_of(found[0]) else None
 
-    def arguments(self, node: ast.Call, wanted: Optional[ast.arguments]) -> str:
+    def arguments(self, node: ast.Call, wanted: Optional[Signature]) -> str:
         """Returns the arguments of a call: those with names at their places, or at the end as an object."""
         plain = [self.value(it) for it in node.args]
         pairs = {it.arg: self.value(it.value) for it in node.keywords if it.arg}
         spread = [f"...py.fields({self.value(it.value)})" for it in node.keywords if it.arg is None]
-        if wanted is None or not (wanted.kwarg or pairs or spread):
+        names, takes_others = wanted or ([], False)
+        if wanted is None or not (takes_others or pairs or spread):
             return ", ".join([*plain, *self.as_object(pairs, spread)])
-        names = [it.arg for it in (*wanted.posonlyargs, *wanted.args, *wanted.kwonlyargs)]
         own, rest = plain[: len(names)], plain[len(names) :]
-        last = max([len(own), *(names.index(it) + 1 for it in pairs if it in names)])
-        if wanted.kwarg:
-            last = len(names)
+        last = len(names) if takes_others else max([len(own), *(names.index(it) + 1 for it in pairs if it in names)])
         own += [pairs.pop(it, "undefined") for it in names[len(own) : last]]
-        if pairs and not wanted.kwarg:
+        if pairs and not takes_others:
             raise self.fail(node, f"the argument {next(iter(pairs))}")
-        return ", ".join([*own, *(self.as_object(pairs, spread) or ["{}"] if wanted.kwarg else []), *rest])
+        return ", ".join([*own, *(self.as_object(pairs, spread) or ["{}"] if takes_others else []), *rest])
 
     def as_object(self, pairs: dict[str, str], spread: list[str]) -> list[str]:
         if not pairs and not spread:
@@ -539,9 +525,9 @@ class Writer:
             if is_docstring(it):
                 continue
             write = getattr(self, f"write_{type(it).__name__}", None)
-            if write is None:
+            if write is None and type(it) not in STATEMENTS:
                 raise self.fail(it, type(it).__name__)
-            said += write(it)
+            said += write(it) if write else STATEMENTS[type(it)]
         return indented(said)
 
     def block(self, head: str, nodes: Iterable[ast.stmt]) -> list[str]:
@@ -556,19 +542,8 @@ class Writer:
             return [f"super({self.values(call.args)});", "const self = this;"]
         return [f"{self.value(node.value)};"]
 
-    def write_Assert(self, _: ast.Assert) -> list[str]:
-        return []
-
-    write_Pass = write_Assert
-
     def write_Return(self, node: ast.Return) -> list[str]:
         return [f"return {self.value(node.value) if node.value else 'null'};"]
-
-    def write_Break(self, _: ast.Break) -> list[str]:
-        return ["break;"]
-
-    def write_Continue(self, _: ast.Continue) -> list[str]:
-        return ["continue;"]
 
     def assigned(self, target: ast.expr, value: str) -> str:
         if isinstance(target, ast.Subscript):
@@ -594,12 +569,7 @@ class Writer:
 
     def write_If(self, node: ast.If) -> list[str]:
         said = self.block(f"if ({self.test(node.test)})", node.body)
-        if not node.orelse:
-            return said
-        if len(node.orelse) == 1 and isinstance(node.orelse[0], ast.If):
-            head, *rest = self.write_If(node.orelse[0])
-            return [*said[:-1], f"}} else {head}", *rest]
-        return [*said[:-1], *self.block("} else", node.orelse)]
+        return [*said[:-1], *self.block("} else", node.orelse)] if node.orelse else said
 
     def write_While(self, node: ast.While) -> list[str]:
         return self.block(f"while ({self.test(node.test)})", node.body)
@@ -666,10 +636,9 @@ class Writer:
         return [f"class {name}{f' extends {base}' if base else ''} {{", *indented(said), "}", *after]
 
     def record(self, node: ast.ClassDef) -> list[str]:
-        names = [it.target.id for it in fields_of(node) if isinstance(it.target, ast.Name)]
-        given = [name + (f" = {self.default(it.value)}" if it.value else "") for name, it in zip(names, fields_of(node))]
-        sets = [f" this.{it} = {it};" for it in names]
-        return [f"static fields = {json.dumps(names)};", f"constructor({', '.join(given)}) {{", " super();", *sets, "}"]
+        given = [name + (f" = {self.default(value)}" if value else "") for name, value in fields_of(node).items()]
+        sets = [f" this.{it} = {it};" for it in fields_of(node)]
+        return [f"static fields = {json.dumps([*fields_of(node)])};", f"constructor({', '.join(given)}) {{", " super();", *sets, "}"]
 
     def default(self, node: ast.expr) -> str:
         """Returns the value of a field that isn't given."""
@@ -740,12 +709,8 @@ def made() -> str:
 
 
 def write() -> None:
-    """Writes the file, if it isn't there as it would be."""
+    """Writes the file, which others may be reading, at once."""
     text = made()
-    if os.path.exists(MADE):
-        with open(MADE, encoding="utf-8") as file:
-            if file.read() == text:
-                return
     os.makedirs(os.path.dirname(MADE), exist_ok=True)
     with open(f"{MADE}.{os.getpid()}", "w", encoding="utf-8") as file:
         file.write(text)

@@ -62,15 +62,6 @@ const isCollection = text => OF_YAML.test(text) || (/^[[{]/.test(text.trimStart(
 export const isOfAnother = text => isCollection(text) || isOfPopeye(withoutMark(text));
 
 /**
- * Reads the problems of a text of another program.
- * @param {string} text
- */
-function draftsOf(text) {
-  const lines = text.replaceAll('\r\n', '\n');
-  return isCollection(text) ? companions.readYaml(lines) : companions.readPopeye(lines);
-}
-
-/**
  * Returns the problems of a text of another program, why some were left out, whether an option asks for tries or threats, and the most
  * refutations of a try, 0 if no option says; null for any other text. The result's text is null if no problem can be posed.
  * @param {string} given
@@ -79,7 +70,7 @@ function draftsOf(text) {
 export function imported(given) {
   const text = withoutMark(given);
   if (!isOfAnother(text)) return null;
-  const drafts = draftsOf(text);
+  const drafts = companions[isCollection(text) ? 'readYaml' : 'readPopeye'](text.replaceAll('\r\n', '\n'));
   const leftOut = drafts.flatMap((/** @type {any} */ { notes }) => notes.map((/** @type {any} */ note) => companions.optionLeftOut(note.text)?.split(' ')[0]));
   const refutations = drafts.reduce((/** @type {number} */ most, /** @type {any} */ { options }) => Math.max(most, options.refutations), 0);
   return { ...posedText(drafts), asksForTries: TRIES_OPTIONS.some(it => leftOut.includes(it)), refutations };

@@ -3,7 +3,7 @@
 // worker, which has no document, the same script does the work of chores.js.
 import { serveChores } from './chores.js';
 import { showContents } from './contents.js';
-import { element, makeButton, partText } from './elements.js';
+import { element, partText } from './elements.js';
 import { makeProblem, move, solveFromHere, togglePlaying } from './line.js';
 import { listenToArea, sayPart, showText } from './page/area.js';
 import {
@@ -25,10 +25,16 @@ import { buildSwitches } from './page/switches.js';
 import { board, buildViews, note, notes, tree } from './page/views.js';
 import { askToStay, beginVisit, drawVisit, openLink, sayUnkept, storeVisit } from './page/visit.js';
 import { goBack, leave, showPlace } from './page/walk.js';
+import { CHANGES } from './position.js';
 import { fillPrint } from './printing.js';
 import { language, LANGUAGES, say, speak } from './words.js';
 
-const CHANGE_SIGNS = { left: '←', right: '→', up: '↑', down: '↓', mirror: '⇋', upright: '⇅', turn: '↻' };
+/** @type {Record<string, () => unknown>} what the buttons do, by their names */
+const ACTS = {
+  undo: () => goSteps(-1), redo: () => goSteps(1), flip: flipBoard, playing: togglePlaying, fromHere: solveFromHere, makeProblem,
+  first: leave, before: goBack, after: () => tree.onward(), unfold: () => tree.foldAll(true), fold: () => tree.foldAll(false),
+  next: addProblem, solve: () => solve(), solveThis, stop: stopSolving, forget: forgetAll, join: joinTail, moreReport: showMoreReport,
+};
 
 /** @param {string} name @returns {NodeListOf<HTMLElement>} the elements with this attribute */
 const allWith = name => document.querySelectorAll(`[${name}]`);
@@ -41,33 +47,12 @@ function fillWords() {
   for (const it of allWith('data-label')) it.setAttribute('aria-label', say(it.dataset.label ?? ''));
 }
 
-/** @param {string} row @param {string} name @param {string | null} sign @param {() => void} act */
-function addButton(row, name, sign, act) {
-  const made = makeButton(say(name), act, sign ?? say(name));
-  made.id = name;
-  element(row).append(made);
-}
-
-function buildButtons() {
-  addButton('changes', 'undo', '↶', () => goSteps(-1));
-  addButton('changes', 'redo', '↷', () => goSteps(1));
-  for (const [name, sign] of Object.entries(CHANGE_SIGNS)) addButton('changes', name, sign, () => changeBoard(name));
-  for (const name of ['exchange', 'clear']) addButton('changes', name, null, () => changeBoard(name));
-  addButton('changes', 'flip', null, flipBoard);
-  addButton('changes', 'playing', null, togglePlaying);
-  togglePlaying();
-  addButton('line', 'fromHere', null, solveFromHere);
-  addButton('line', 'makeProblem', null, makeProblem);
-  addButton('walk', 'first', null, leave);
-  addButton('walk', 'before', '◀', goBack);
-  addButton('walk', 'after', '▶', () => tree.onward());
-  addButton('folds', 'unfold', null, () => tree.foldAll(true));
-  addButton('folds', 'fold', null, () => tree.foldAll(false));
-  const reached = document.createElement('strong');
-  reached.id = 'reached';
-  element('walk').append(reached);
+function connectButtons() {
+  for (const [name, act] of Object.entries(ACTS)) element(name).onclick = act;
+  for (const name of [...Object.keys(CHANGES), 'exchange', 'clear']) element(name).onclick = () => changeBoard(name);
   // (what was done before is in what is saved)
-  for (const [name, act] of Object.entries(OUTS)) addButton('outs', name, null, () => state.whenRead(act));
+  for (const [name, act] of Object.entries(OUTS)) element(name).onclick = () => state.whenRead(act);
+  togglePlaying();
 }
 
 /** Shows the board from the other side, now and in later visits. */
@@ -93,14 +78,6 @@ function keyPressed(event) {
   event.preventDefault();
 }
 
-/**
- * Ends what is said of one action when a click begins the next.
- * @param {Event} event
- */
-function clicked(event) {
-  if (/** @type {Element} */ (event.target).closest?.('button, label, select, summary')) notes.endAction();
-}
-
 function listen() {
   const area = element('text');
   area.oninput = typed;
@@ -108,20 +85,14 @@ function listen() {
   area.onkeyup = placed;
   area.onscroll = placeMarks;
   listenToArea(() => setText(''));
-  element('next').onclick = addProblem;
   element('problems').onchange = () => goToProblem(Number(element('problems').value));
   element('problemNumber').onchange = numberWritten;
-  element('solve').onclick = () => solve();
-  element('solveThis').onclick = solveThis;
-  element('stop').onclick = stopSolving;
   element('tries').addEventListener('change', showMost);
-  element('forget').onclick = forgetAll;
   element('fen').oninput = () => notes.check();
   element('fen').onchange = fenWritten;
-  element('join').onclick = joinTail;
-  element('moreReport').onclick = showMoreReport;
   addEventListener('keydown', keyPressed);
-  addEventListener('click', clicked, true);
+  // (what is said of one action ends when a click begins the next)
+  addEventListener('click', ({ target }) => /** @type {Element} */ (target).closest?.('button, label, select, summary') && notes.endAction(), true);
   addEventListener('beforeprint', fillPrint);
   addEventListener('hashchange', openLink);
   addEventListener('pagehide', storeVisit);
@@ -146,7 +117,7 @@ function begin() {
   fillWords();
   buildLanguages();
   element('shapes').innerHTML = partText('men-shapes');
-  buildButtons();
+  connectButtons();
   buildFields();
   buildViews({ change, move }, showPlace);
   if (kept('pops.flipped')) flipBoard();

@@ -2,7 +2,7 @@
 // Puts a report together: heads as the engine prints them for a text that it only tests, solutions part by part, totals as
 // it prints them. At any time the result is a beginning of the report.
 import { askedOf } from './report.js';
-import { blocksOf, fieldsOf, valueOf, wordsOf } from './text.js';
+import { blocksOf, fieldsOf, problemsOf, valueOf } from './text.js';
 
 export const SOUND_LINE = 'sound\n\n';
 
@@ -12,17 +12,12 @@ export const SOUND_LINE = 'sound\n\n';
  * @param {string} text
  */
 export function itemTexts(text) {
-  const found = [];
-  let opening = '';
   let from = 0;
-  for (const word of wordsOf(text)) {
-    if (word.command !== 'nextproblem' && word.command !== 'endproblem') continue;
-    found.push(`${opening}${text.slice(from, word.from)}EndProblem\n`);
-    if (word.command === 'endproblem') return found;
-    opening = 'BeginProblem';
-    from = word.to;
-  }
-  return [...found, opening + text.slice(from)];
+  return problemsOf(text).map(({ closing }, at) => {
+    const own = (at ? 'BeginProblem' : '') + text.slice(from, closing?.from) + (closing ? 'EndProblem\n' : '');
+    from = closing?.to ?? from;
+    return own;
+  });
 }
 
 /**
@@ -148,31 +143,22 @@ export class PhasePiece {
     return last;
   }
 
-  /** Counts the needed parts that are done. */
-  countDone() {
-    return [...this.counts.keys()].filter(number => number <= this.last).length;
-  }
-
   /** Returns the text that is new since the last call: complete solutions of parts in order, and at the end their number. */
   more() {
     let text = this.begun;
     this.begun = '';
-    while (this.solutions.has(this.next) && !this.isCut && this.found < this.limit) text += this.taken();
+    for (let part; !this.isCut && this.found < this.limit && (part = this.solutions.get(this.next)); this.next++) {
+      const shown = part.all.slice(0, this.limit - this.found);
+      this.solutions.delete(this.next);
+      // (a limit reached before an incomplete solution completes the phase)
+      this.isCut = part.isCut && shown.length === part.all.length;
+      this.found += shown.length;
+      text += shown.join('');
+    }
     if (this.isWhole || this.isCut || this.next <= this.last) return text;
     this.isWhole = true;
     if (!this.isPossible) return text;
     return `${text}solutions: ${this.found}${this.found === this.limit ? ', stopped' : ''}\n`;
-  }
-
-  taken() {
-    const { all, isCut } = /** @type {PartSolutions} */ (this.solutions.get(this.next));
-    const shown = all.slice(0, this.limit - this.found);
-    this.solutions.delete(this.next);
-    this.next += 1;
-    // (a limit reached before an incomplete solution completes the phase)
-    this.isCut = isCut && shown.length === all.length;
-    this.found += shown.length;
-    return shown.join('');
   }
 }
 

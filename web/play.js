@@ -153,9 +153,6 @@ export function barredAfter(men, moves, barred) {
   return HOME_SQUARES.filter(square => touched.has(square) && isHome(square));
 }
 
-/** @param {Move[]} moves */
-const movesSaid = moves => moves.map(labelOf).join(' ');
-
 /**
  * Replaces a problem's position by the position after some moves; its stipulation stays.
  * @param {string} text
@@ -189,7 +186,7 @@ export function withProblemAfter(text, block, { men, moves }) {
   ];
   const condition = valueOf(fields, 'condition');
   const lines = [
-    `Title ${[valueOf(fields, 'title'), 'after', movesSaid(moves)].filter(Boolean).join(' ')}`, `Pieces${sidesOf(men)}`,
+    `Title ${[valueOf(fields, 'title'), 'after', ...moves.map(labelOf)].filter(Boolean).join(' ')}`, `Pieces${sidesOf(men)}`,
     `Stipulation ${asked.word}`, ...(condition ? [`Condition ${condition}`] : []), ...(options.length ? [`Option ${options.join(' ')}`] : []),
   ];
   const isOpen = block.end === text.length;

@@ -26,7 +26,7 @@ export const manAt = (men, square) => /** @type {Man} */ (men.get(square));
 /** @param {Colour} colour */
 export const other = colour => (colour === 'w' ? 'b' : 'w');
 /** @type {Record<string, (file: number, rank: number) => [number, number]>} the changes of places */
-const CHANGES = {
+export const CHANGES = {
   left: (file, rank) => [file - 1, rank],
   right: (file, rank) => [file + 1, rank],
   up: (file, rank) => [file, rank + 1],
@@ -92,7 +92,8 @@ export function menOfRanks(ranks) {
  */
 export function fenOf({ men, turn, barred, crossed }) {
   const passed = /^[a-h][36]$/.test(crossed ?? '') ? crossed : '-';
-  return `${placementOf(men)} ${turn} ${rightsOf(men, barred)} ${passed} 0 1`;
+  const rights = homeRights(men).filter(right => !barred.includes(CORNERS[right]) && !barred.includes(`e${CORNERS[right][1]}`));
+  return `${placementOf(men)} ${turn} ${rights.join('') || '-'} ${passed} 0 1`;
 }
 
 /** @param {Men} men */
@@ -102,19 +103,14 @@ function placementOf(men) {
   return ranksOf(men).map(row => row.replace(/[a-z]/gi, fenLetter).replace(/\.+/g, points => String(points.length))).join('/');
 }
 
-/** @type {(men: Men, right: string) => boolean} */
-function standAtHome(men, right) {
-  const colour = right < 'a' ? 'w' : 'b';
-  const corner = CORNERS[right];
+/**
+ * Returns the rights whose king and rook are at home.
+ * @param {Men} men
+ */
+const homeRights = men => Object.keys(CORNERS).filter(right => {
+  const [colour, corner] = [right < 'a' ? 'w' : 'b', CORNERS[right]];
   return men.get(corner) === `${colour}R` && men.get(`e${corner[1]}`) === `${colour}K`;
-}
-
-/** @type {(men: Men, barred: string[]) => string} */
-function rightsOf(men, barred) {
-  /** @param {string} right */
-  const isBarred = right => barred.includes(CORNERS[right]) || barred.includes(`e${CORNERS[right][1]}`);
-  return Object.keys(CORNERS).filter(right => standAtHome(men, right) && !isBarred(right)).join('') || '-';
-}
+});
 
 /**
  * Reads a position in FEN; null if the text is none. The fields after the board may be missing.
@@ -128,7 +124,8 @@ export function readFen(text) {
   const men = menOfPlacement(placement);
   if (!men || counts.length > 2 || !counts.every(field => /^\d+$/.test(field))) return null;
   if (!/^[wb]$/.test(turn) || !/^(-|[KQkq]+)$/.test(rights ?? '-') || !/^(-|[a-h][36])$/.test(crossed)) return null;
-  return { men, turn, noCastling: barredCorners(men, rights), crossed: crossed === '-' ? null : crossed };
+  const barred = rights === null ? [] : homeRights(men).filter(right => !rights.includes(right));
+  return { men, turn, noCastling: barred.map(right => CORNERS[right]), crossed: crossed === '-' ? null : crossed };
 }
 
 /**
@@ -151,15 +148,6 @@ function menOfPlacement(placement) {
   if (!isFen) return null;
   const placed = rows.flatMap((row, index) => squaresOf(row).map((man, file) => /** @type {[string, string]} */ ([squareOf(file, 7 - index), man])));
   return new Map(placed.filter(([, man]) => man));
-}
-
-/**
- * Returns the corners whose rook may not castle although king and rook are at home.
- * @type {(men: Men, rights: string | null) => string[]}
- */
-function barredCorners(men, rights) {
-  if (rights === null) return [];
-  return Object.keys(CORNERS).filter(right => standAtHome(men, right) && !rights.includes(right)).map(right => CORNERS[right]);
 }
 
 /**

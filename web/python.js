@@ -2,6 +2,8 @@
 // What Python's own types and modules do, for the module that web/from_python.py makes: only what that module uses. Bytes are strings of
 // characters up to U+00FF, tuples are arrays.
 
+import { LETTERS, UTF8 } from './codecs.js';
+
 /** @type {any} */
 export const py = (() => {
   class Exception extends Error {
@@ -221,10 +223,7 @@ export const py = (() => {
 
   const re = {
     IGNORECASE, MULTILINE, DOTALL, ASCII, compile,
-    search: (pattern, text, flags = 0) => compile(pattern, flags).search(text),
-    match: (pattern, text, flags = 0) => compile(pattern, flags).match(text),
-    fullmatch: (pattern, text, flags = 0) => compile(pattern, flags).fullmatch(text),
-    findall: (pattern, text, flags = 0) => compile(pattern, flags).findall(text),
+    ...Object.fromEntries(['search', 'match', 'fullmatch', 'findall'].map(name => [name, (pattern, text, flags = 0) => compile(pattern, flags)[name](text)])),
     sub: (pattern, made, text) => compile(pattern).sub(made, text),
     escape: text => text.replace(/[\]\\^$.*+?()[{}|/-]/g, '\\$&'),
   };
@@ -273,27 +272,17 @@ export const py = (() => {
     return all.sort((one, next) => (reverse ? compare(key(next), key(one)) : compare(key(one), key(next))));
   }
 
-  function min(...given) {
+  /** Returns the first of some values that no other is beyond: below for the sign -1, above for 1. */
+  const utmost = sign => (...given) => {
     const { all, key, absent } = withOptions(given);
-    return all.length ? all.reduce((one, next) => (compare(key(next), key(one)) < 0 ? next : one)) : absent;
-  }
-
-  function max(...given) {
-    const { all, key, absent } = withOptions(given);
-    return all.length ? all.reduce((one, next) => (compare(key(next), key(one)) > 0 ? next : one)) : absent;
-  }
+    return all.length ? all.reduce((one, next) => (compare(key(next), key(one)) === sign ? next : one)) : absent;
+  };
 
   function range(one, end, step = 1) {
     const [from, to] = end === undefined ? [0, one] : [one, end];
     const all = [];
     for (let at = from; step > 0 ? at < to : at > to; at += step) all.push(at);
     return all;
-  }
-
-  function bytesOf(text) {
-    const bytes = new Uint8Array(text.length);
-    for (let at = 0; at < text.length; at++) bytes[at] = text.charCodeAt(at);
-    return bytes;
   }
 
   const isAscii = text => !/[^\0-\x7f]/.test(text);
@@ -303,28 +292,14 @@ export const py = (() => {
     const known = { 'utf-16': text.startsWith('\xfe\xff') ? 'utf-16be' : 'utf-16le', 'utf-16-le': 'utf-16le', 'utf-16-be': 'utf-16be' }[coding];
     try {
       const decoder = new TextDecoder(known ?? 'utf-8', { fatal: errors === 'strict', ignoreBOM: coding !== 'utf-16' });
-      const said = decoder.decode(bytesOf(text));
+      const said = decoder.decode(LETTERS.encode(text));
       return errors === 'ignore' ? said.replaceAll('\ufffd', '') : said;
     } catch {
       throw new UnicodeDecodeError(`no ${coding}`);
     }
   }
 
-  // The most arguments of a call that every JavaScript takes.
-  const MOST_ARGUMENTS = 8192;
-  function encode(text, coding) {
-    if (coding !== 'utf-8' || isAscii(text)) return text;
-    const bytes = new TextEncoder().encode(text);
-    const parts = [];
-    for (let at = 0; at < bytes.length; at += MOST_ARGUMENTS) parts.push(String.fromCharCode(...bytes.subarray(at, at + MOST_ARGUMENTS)));
-    return parts.join('');
-  }
-
-  function countOf(text, one) {
-    let count = 0;
-    for (let at = text.indexOf(one); at >= 0; at = text.indexOf(one, at + one.length)) count++;
-    return count;
-  }
+  const encode = (text, coding) => (coding !== 'utf-8' || isAscii(text) ? text : LETTERS.decode(UTF8.encode(text)));
 
   /** Counts the letters at an end of a text that are among some signs, from a place on by steps. */
   function countOfEnd(text, signs, start, step) {
@@ -362,7 +337,7 @@ export const py = (() => {
   const set = (it = []) => new PySet(list(it).map(key => [key, null]));
 
   return {
-    Exception, ValueError, UnicodeError, UnicodeDecodeError, Record, Enum, re, unicodedata, members, iter, list, tuple: list, len, bool, at, sorted, min, max, range,
+    Exception, ValueError, UnicodeError, UnicodeDecodeError, Record, Enum, re, unicodedata, members, iter, list, tuple: list, len, bool, at, sorted, min: utmost(-1), max: utmost(1), range,
     decode, encode, lstrip, rstrip, formatted, isinstance, str, dict, items, set, frozenset: set,
     format: (text, ...given) => text.replace(/\{(\w*)\}/g, (_, name) => (name ? given[name] ?? given[0][name] : given.shift())),
     percent: (text, given) => { const all = [given].flat(); return text.replace(/%[ds]/g, () => all.shift()); },
@@ -393,7 +368,7 @@ export const py = (() => {
     abs: Math.abs, int: Number, ord: letter => letter.codePointAt(0), chr: String.fromCodePoint, repr: it => `'${it}'`,
     fields: it => (it instanceof Dict ? Object.fromEntries(items(it)) : it),
     append: (all, it) => { all.push(it); },
-    count: (all, one, from = 0, to = Infinity) => (typeof all === 'string' ? countOf(all.slice(from, to), one) : all.filter(it => eq(it, one)).length),
+    count: (all, one, from = 0, to = Infinity) => (typeof all === 'string' ? all.slice(from, to).split(one).length - 1 : all.filter(it => eq(it, one)).length),
     index: (all, one) => (typeof all === 'string' ? all.indexOf(one) : all.findIndex(it => eq(it, one))),
     find: (text, one, from = 0, to = Infinity) => text.slice(0, to).indexOf(one, from),
     rfind: (text, one, from = 0, to = Infinity) => { const place = text.slice(0, to).lastIndexOf(one); return place < from ? -1 : place; },

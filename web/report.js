@@ -1,12 +1,11 @@
 // @ts-check
 // Reads a report, with or without tries, or a beginning of one: items, phases, trees of moves.
 import { KINDS } from './men.js';
+import { atOnce } from './slices.js';
 
 const REBORN = KINDS.replace('K', '');
 const PROMOTED = REBORN.replace('P', '');
 const RANK = new RegExp(`^[1-8] [${KINDS}${KINDS.toLowerCase()}.]{8}$`);
-/** @type {Record<string, string>} */
-const PLAYS = { '': 'direct', s: 'self', h: 'help' };
 const MOVE = new RegExp(`^(?:(0-0-0|0-0)|([K${PROMOTED}])?([a-h][1-8])([-*])([a-h][1-8])( ep\\.)?(?:=([${PROMOTED}]))?`
   + `(?:\\[\\+([wb])([${REBORN}])([a-h][1-8])\\])?)([+#=])?$`);
 const HALF = /(?:([1-9][0-9]*)(\.\.\.|\.))?((?:[^ ]+)(?: ep\.[^ ]*)?)/g;
@@ -62,13 +61,10 @@ export function movesOf(line, isHelp) {
 export function askedOf(line) {
   const found = ASKED.exec(line);
   if (!found) return null;
-  const [, form, goal, number, half, condition] = found;
+  const [, form, , number, half, condition] = found;
   const moves = Number(number);
-  const isHelp = form === 'h';
-  const halfMoves = isHelp ? 2 * moves + (half ? 1 : 0) : form ? 2 * moves : 2 * moves - 1;
-  const text = line.split(' ')[0];
-  return { line, text, isHelp, play: PLAYS[form], goal, moves, halfMoves,
-    condition: condition ?? null };
+  const halfMoves = 2 * moves + (form ? Number(Boolean(half)) : -1);
+  return { line, text: line.split(' ')[0], isHelp: form === 'h', moves, halfMoves, condition: condition ?? null };
 }
 
 /**
@@ -182,19 +178,16 @@ export class ReportReading {
    */
   *more() {
     for (let count = 1; !this.isOver; count++) {
-      if (this.at === this.lines.length && !this.divide()) return;
+      if (this.at === this.lines.length) {
+        const lines = this.left.split('\n');
+        this.left = lines.pop() ?? '';
+        Object.assign(this, { lines, at: 0 });
+        if (!lines.length) return;
+      }
       this.isOver = !this.take(this.lines[this.at]);
       this.at += 1;
       if (count % LINES_A_STEP === 0) yield;
     }
-  }
-
-  /** Divides what was added into lines; returns whether there are some. */
-  divide() {
-    const lines = this.left.split('\n');
-    this.left = lines.pop() ?? '';
-    Object.assign(this, { lines, at: 0 });
-    return lines.length > 0;
   }
 }
 
@@ -203,11 +196,8 @@ export class ReportReading {
  * @param {string} report
  */
 export function itemsOf(report) {
-  const reading = new ReportReading();
-  // (what follows the last line end is no empty line, which would end an item)
-  for (const line of report.replace(/\n$/, '').split('\n')) {
-    if (!reading.take(line)) break;
-  }
+  const reading = new ReportReading(report.endsWith('\n') ? report : `${report}\n`);
+  atOnce(reading.more());
   return reading.items;
 }
 

@@ -26,23 +26,10 @@ export function atOnce(steps) {
  * @param {(result: T) => void} [ended]
  */
 export function inSlices(length, steps, ended = () => {}) {
-  if (length < LONG_TEXT) {
-    ended(atOnce(steps));
-    return () => {};
-  }
-  /** @type {ReturnType<typeof setTimeout> | undefined} */
-  let next;
-  function slice() {
-    const end = performance.now() + SLICE_MILLISECONDS;
-    for (;;) {
-      const { done, value } = steps.next();
-      if (done) return ended(/** @type {T} */ (value));
-      if (performance.now() >= end) break;
-    }
-    next = setTimeout(slice);
-  }
-  slice();
-  return () => clearTimeout(next);
+  const work = new Work();
+  if (length < LONG_TEXT) ended(atOnce(steps));
+  else work.add((function* () { ended(yield* steps); }()));
+  return () => work.clear();
 }
 
 /** Work of many parts, one after the other, in slices that they share. */

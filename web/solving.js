@@ -90,8 +90,8 @@ export class Solving {
 
   /** Counts the finished parts and the parts known to be needed; a problem that is solved whole is one part. */
   get progress() {
-    const parts = this.phases.map(it => it.last).reduce((sum, last) => sum + last, this.whole);
-    const done = this.phases.map(it => it.countDone()).reduce((sum, count) => sum + count, this.wholeDone);
+    const parts = this.phases.reduce((sum, { last }) => sum + last, this.whole);
+    const done = this.phases.reduce((sum, it) => sum + [...it.counts.keys()].filter(number => number <= it.last).length, this.wholeDone);
     return { done, parts, found: this.found };
   }
 

@@ -2,7 +2,7 @@
 // A text of problems: reads and replaces the men and fields of one problem. The rest of the text stays byte for byte.
 // Nothing here judges a problem: the engine does.
 import { KINDS } from './men.js';
-import { fenOf } from './position.js';
+import { fenOf, menOfRanks } from './position.js';
 import { atOnce, LONG_TEXT } from './slices.js';
 
 // Text lines that are fields of the page.
@@ -109,33 +109,59 @@ const opensText = word => word.command === 'beginproblem';
 export const hasProblem = text => atOnce(readWords(text.slice(0, LONG_TEXT), opensText)).some(opensText);
 
 /**
+ * Divides the words of a text at those that close a problem, step by step.
+ * @param {string} text
+ * @returns {Generator<void, ProblemWords[]>}
+ */
+function* readParts(text) {
+  const words = yield* wordsOf.steps(text);
+  /** @type {ProblemWords[]} */
+  const parts = [{ tokens: [], closing: null }];
+  for (let at = 0; at < words.length; at++) {
+    if (at % WORDS_A_STEP === WORDS_A_STEP - 1) yield;
+    const [word, part] = [words[at], parts[parts.length - 1]];
+    const isClosing = word.command === 'nextproblem' || word.command === 'endproblem';
+    if (!isClosing) part.tokens.push(word);
+    else if (parts.push({ tokens: [], closing: null })) part.closing = word;
+  }
+  return parts;
+}
+
+const partsOf = remembered(readParts);
+
+/** Returns the problems of a text as pops numbers them: the words and text lines of each, and the word that closes it. */
+export const problemsOf = remembered(function* (text) {
+  const parts = yield* partsOf.steps(text);
+  const last = parts.findIndex(it => it.closing?.command === 'endproblem');
+  return last < 0 ? parts : parts.slice(0, last + 1);
+});
+
+/**
  * Reads the problems of a text step by step.
  * @param {string} text
+ * @param {boolean} [isAll] whether also those after an EndProblem are read
  * @returns {Generator<void, Block[]>}
  */
-function* readBlocks(text) {
-  const words = yield* wordsOf.steps(text);
+function* readBlocks(text, isAll = false) {
+  const parts = yield* partsOf.steps(text);
   /** @type {Block[]} */
   const blocks = [];
-  /** @type {Block | null} */
-  let open = null;
-  for (let at = 0; at < words.length; at++) {
-    if (at % WORDS_A_STEP === 0) yield;
-    const word = words[at];
-    const closes = word.command === 'nextproblem' || word.command === 'endproblem';
-    if (open && closes) open.end = word.from;
-    const opens = open ? word.command === 'nextproblem' : word.command === 'beginproblem' && !blocks.length;
-    if (opens) {
-      open = { words: [], from: word.from, start: word.to, end: text.length, number: blocks.length + 1 };
-      blocks.push(open);
-    } else if (closes) open = null;
-    else if (open) open.words.push(word);
+  /** @type {Token | null} the NextProblem after the last problem */
+  let next = null;
+  for (let at = 0; at < parts.length && (isAll || next || !blocks.length); at++) {
+    if (at % WORDS_A_STEP === WORDS_A_STEP - 1) yield;
+    const { tokens, closing } = parts[at];
+    const opening = /** @type {Token | undefined} */ (next ?? tokens.find(opensText));
+    next = opening && closing?.command === 'nextproblem' ? closing : null;
+    if (!opening) continue;
+    const words = tokens.slice(tokens.indexOf(opening) + 1);
+    blocks.push({ words, from: opening.from, start: opening.to, end: closing?.from ?? text.length, number: blocks.length + 1 });
   }
   return blocks;
 }
 
 /** Returns the problems of a text: the words of each, between its opening and its closing word. */
-export const blocksOf = remembered(readBlocks);
+export const blocksOf = remembered(text => readBlocks(text));
 
 /**
  * Finds step by step whether two problems pose the same: whether their words are the same without text lines, in small letters.
@@ -212,6 +238,13 @@ const menByBlock = keptByBlock(readMenOf);
  * @param {Block} block
  */
 export const menOf = block => menByBlock.of(block);
+
+/**
+ * Returns the men of an item's diagram: from the report, or from the text if the report shows no board.
+ * @param {Item} item
+ * @param {Block | undefined} block
+ */
+export const menOfItem = ({ ranks }, block) => (ranks.length || !block ? menOfRanks(ranks) : menOf(block).men);
 
 /**
  * Reads one word after Pieces, and returns the colour of the men that follow.
@@ -327,13 +360,6 @@ function edited(text, edits) {
   const gone = joinedParts(text, edits.flatMap(it => it.gone)).map(part => withBlanks(text, part));
   return replaced(text, [...edits.flatMap(it => it.put), ...gone]);
 }
-
-/**
- * Removes some parts of a text; parts with only blanks between them are removed as one.
- * @param {string} text
- * @param {Span[]} parts
- */
-const without = (text, parts) => edited(text, [{ gone: parts, put: [] }]);
 
 /**
  * Returns the edit that replaces the men of a problem.
@@ -463,41 +489,29 @@ export function valueOf(fields, name) {
 const oneLine = value => value.replace(/[\r\n]+/g, ' ').trim();
 
 /**
- * Adds a text line after the word that opens the problem; what follows that word in its line goes on the next one.
- * @param {string} text
- * @param {Block} block
- * @param {string} line
- */
-function afterOpening(text, block, line) {
-  const isLine = /^[ \t\r]*(\n|$)/.test(text.slice(block.start));
-  return `${text.slice(0, block.start)}\n${line}${isLine ? '' : '\n'}${text.slice(block.start)}`;
-}
-
-/**
- * Sets a text line, as the title, or another word after a command: the stipulation or the condition; the last one counts.
+ * Returns the edit that sets a text line, as the title, or another word after a command: the stipulation or the condition; the last one
+ * counts.
  * @param {string} text
  * @param {Block} block
  * @param {string} name
  * @param {string} value
+ * @returns {Edit}
  */
-function withValue(text, block, name, value) {
+function valueEdit(text, block, name, value) {
   const command = name.toLowerCase();
   const isLine = TEXT_FIELDS.includes(command);
   const field = fieldsOf(text, block)[command];
   const said = oneLine(value);
-  if (field && said) return replaced(text, [{ ...field.parts[0], said: isLine ? `${name} ${said}` : said }]);
-  if (field) return without(text, [...commandAlone(field), ...field.parts]);
-  if (!said) return text;
-  if (isLine) return afterOpening(text, block, `${name} ${said}`);
+  const line = `${name} ${said}`;
+  if (field && !said) return { gone: [...emptied(field.parts.map(() => field.section), null), ...field.parts], put: [] };
+  if (!said) return { gone: [], put: [] };
+  if (field) return { gone: [], put: [{ ...field.parts[0], said: isLine ? line : said }] };
+  // (what follows the opening word in its line goes on the next one)
+  const end = /^[ \t\r]*(\n|$)/.test(text.slice(block.start)) ? '' : '\n';
+  if (isLine) return { gone: [], put: [{ from: block.start, to: block.start, said: `\n${line}${end}` }] };
   const bare = block.words.find(word => word.command === command);
-  return bare ? replaced(text, [{ from: bare.to, to: bare.to, said: ` ${said}` }]) : withLine(text, block, `${name} ${said}`);
+  return { gone: [], put: [bare ? { from: bare.to, to: bare.to, said: ` ${said}` } : linePut(text, block, line)] };
 }
-
-/**
- * Lists the field's command if it has no other words.
- * @param {Field} field
- */
-const commandAlone = ({ section, parts }) => (section?.words === parts.length ? [section] : []);
 
 /**
  * Returns the edit that sets options and their values; it removes those whose value is null.
@@ -509,7 +523,10 @@ const commandAlone = ({ section, parts }) => (section?.words === parts.length ? 
 function optionsEdit(text, block, values) {
   const fields = fieldsOf(text, block);
   const set = Object.entries(values).filter(([name, value]) => value !== null && fields[name]);
-  const put = set.map(([name, value]) => valuePut(fields[name].parts, oneLine(value ?? '')));
+  const put = set.map(([name, value]) => {
+    const [{ parts: [own, first] }, said] = [fields[name], oneLine(value ?? '')];
+    return first ? { ...first, said } : { from: own.to, to: own.to, said: said && ` ${said}` };
+  });
   const gone = Object.entries(values).flatMap(([name, value]) => goneParts(fields[name], value !== null));
   const added = Object.entries(values).flatMap(([name, value]) => (value === null || fields[name] ? [] : [`${name} ${oneLine(value)}`.trim()]));
   const words = new Set(gone.map(({ part }) => part.from));
@@ -517,16 +534,6 @@ function optionsEdit(text, block, values) {
   if (place) put.push({ from: place.to, to: place.to, said: ` ${added.join(' ')}` });
   else if (added.length) put.push(linePut(text, block, `Option ${added.join(' ')}`));
   return { put, gone: [...gone.map(it => it.part), ...emptied(gone.map(it => it.section), place?.section ?? null)] };
-}
-
-/**
- * Returns what sets the value of an option, the last one of its name: its first word after the name, or a new one.
- * @param {Span[]} parts
- * @param {string} said
- * @returns {Replacement}
- */
-function valuePut([own, first], said) {
-  return first ? { ...first, said } : { from: own.to, to: own.to, said: said && ` ${said}` };
 }
 
 /**
@@ -580,7 +587,7 @@ function placeOfOptions(text, block, gone) {
 export function withField(text, place, name, value) {
   const block = problemAt(text, place);
   const isOption = FLAGS.includes(name) || VALUES.includes(name);
-  return isOption ? edited(text, [optionsEdit(text, block, { [name]: value })]) : withValue(text, block, name, value ?? '');
+  return edited(text, [isOption ? optionsEdit(text, block, { [name]: value }) : valueEdit(text, block, name, value ?? '')]);
 }
 
 /**
@@ -647,23 +654,9 @@ export function withTail(text) {
  * Joins texts of problems to one, with the problems after an EndProblem.
  * @param {string[]} texts
  */
-export const joinedTexts = texts => `BeginProblem${texts.flatMap(bodiesOf).join('NextProblem')}EndProblem\n`;
-
-/**
- * Returns what a text has between the words that begin and end each of its problems, as whole lines.
- * @param {string} text
- */
-function bodiesOf(text) {
-  const bodies = [];
-  /** @type {number | null} */
-  let start = null;
-  for (const { command, from, to } of [...wordsOf(text), { command: 'endproblem', from: text.length, to: text.length }]) {
-    const closes = command === 'nextproblem' || command === 'endproblem';
-    if (start !== null && closes) bodies.push(text.slice(start, from).trimEnd() + '\n');
-    if (command === (start === null ? 'beginproblem' : 'nextproblem')) start = to;
-    else if (closes) start = null;
-  }
-  return bodies;
+export function joinedTexts(texts) {
+  const bodies = texts.flatMap(text => atOnce(readBlocks(text, true)).map(({ start, end }) => `${text.slice(start, end).trimEnd()}\n`));
+  return `BeginProblem${bodies.join('NextProblem')}EndProblem\n`;
 }
 
 // Where each line begins.
@@ -710,28 +703,3 @@ export function lineAt(text, line) {
   const end = text.indexOf('\n', from);
   return { from, to: end < 0 ? text.length : end };
 }
-
-/**
- * Reads the problems of a text as pops numbers them, step by step.
- * @param {string} text
- * @returns {Generator<void, ProblemWords[]>}
- */
-function* readProblems(text) {
-  const words = yield* wordsOf.steps(text);
-  /** @type {ProblemWords[]} */
-  const problems = [{ tokens: [], isClosed: false }];
-  for (let at = 0; at < words.length; at++) {
-    if (at % WORDS_A_STEP === WORDS_A_STEP - 1) yield;
-    const token = words[at];
-    const problem = problems[problems.length - 1];
-    problem.tokens.push(token);
-    if (token.command !== 'nextproblem' && token.command !== 'endproblem') continue;
-    problem.isClosed = true;
-    if (token.command === 'endproblem') return problems;
-    problems.push({ tokens: [], isClosed: false });
-  }
-  return problems;
-}
-
-/** Returns the problems of a text as pops numbers them: the words and text lines of each, with the word that ends it. */
-export const problemsOf = remembered(readProblems);

@@ -30,10 +30,6 @@ const isOpenRow = row => Boolean(row.list && !row.list.hidden);
 const openPaths = row => (isOpenRow(row) ? [pathOf(row), ...row.below.flatMap(openPaths)] : []);
 /** @param {TreeRow} row @returns {TreeRow} */
 const topOf = row => (row.parent ? topOf(row.parent) : row);
-/** @param {RowPlace} place */
-const movesTo = ({ row, index }) => [...row.path, ...row.moves.slice(0, index + 1)];
-/** @param {RowPlace} place */
-const stepsTo = ({ row, index }) => [...stepsAbove(row), ...stepsOf(row).slice(0, index + 1)];
 /**
  * Returns the rows of a list that are drawn.
  * @param {TreeRow[]} rows
@@ -200,7 +196,10 @@ export class Tree {
     box.groups = [];
     box.head = document.createElement('h2');
     box.age = madeWith('p', say('oldItem'));
-    box.compared = this.comparisonBox(box);
+    box.compared = Object.assign(document.createElement('details'), { className: 'compared' });
+    box.compared.append(madeWith('summary', say('compared')));
+    // (phases side by side, made when they are opened)
+    box.compared.ontoggle = () => box.compared.open && this.fillComparison(box);
     box.append(box.head, box.age);
     this.markBox(box, item);
     if (item.fault) box.append(fault(/** @type {FaultyItem} */ (item)));
@@ -233,27 +232,6 @@ export class Tree {
       if (index < box.groups.length) this.growPhase(box.groups[index], phase, /** @type {SoundItem} */ (item));
       else box.append(...this.drawnPhase(phase, /** @type {SoundItem} */ (item), box));
     });
-    this.growComparison(box, item);
-  }
-
-  /**
-   * Makes the box of phases side by side, which is filled when it is opened.
-   * @param {any} box
-   */
-  comparisonBox(box) {
-    const made = document.createElement('details');
-    made.className = 'compared';
-    made.append(madeWith('summary', say('compared')));
-    made.ontoggle = () => made.open && this.fillComparison(box);
-    return made;
-  }
-
-  /**
-   * Shows the box of phases side by side once there are some.
-   * @param {any} box
-   * @param {Item} item
-   */
-  growComparison(box, item) {
     if (item.asked?.isHelp || !isComparable(this.phasesOf(box))) return;
     box.append(box.compared);
     if (box.compared.open) this.fillComparison(box);
@@ -338,7 +316,9 @@ export class Tree {
     group.lines = phase.lines.length;
     const last = group.rows.length - 1;
     const from = last < 0 ? 0 : group.rows[last].from;
-    const rows = /** @type {TreeRow[]} */ (rowsOf(phase, item.asked.isHelp, { from, made: (made, above) => this.prepare(made, above, group) }));
+    const made = (/** @type {Row[]} */ own, /** @type {Row | null} */ parent) => own.forEach((row, index) => (
+      Object.assign(row, { parent, group, index, siblings: parent ? own : group.rows })));
+    const rows = /** @type {TreeRow[]} */ (rowsOf(phase, item.asked.isHelp, { from, made }));
     if (last >= 0 && rows[0].to !== group.rows[last].to) this.replaceRow(group, last, rows[0]);
     for (const row of last < 0 ? rows : rows.slice(1)) {
       row.index = group.rows.push(row) - 1;
@@ -357,7 +337,7 @@ export class Tree {
     const old = group.rows[index];
     const { current } = this;
     const isWalked = current !== null && topOf(current.row) === old;
-    const steps = isWalked ? stepsTo(current) : [];
+    const steps = isWalked ? [...stepsAbove(current.row), ...stepsOf(current.row).slice(0, current.index + 1)] : [];
     const hasFocus = old.line?.contains(document.activeElement);
     group.rows[index] = row;
     row.index = index;
@@ -369,16 +349,6 @@ export class Tree {
     const button = this.current.row.buttons[this.current.index];
     button.setAttribute('aria-current', 'true');
     if (hasFocus) button.focus({ preventScroll: true });
-  }
-
-  /**
-   * Gives rows their places in the tree; the top rows of a phase are all beside each other.
-   * @param {Row[]} rows
-   * @param {Row | null} parent
-   * @param {Group} group
-   */
-  prepare(rows, parent, group) {
-    for (const [index, row] of rows.entries()) Object.assign(row, { parent, group, index, siblings: parent ? rows : group.rows });
   }
 
   /** @param {TreeRow} row */
@@ -404,14 +374,8 @@ export class Tree {
    */
   buttonsOf(row) {
     const said = row.word ? [say(`below-${row.word}`)] : row.moves.map((move, index) => (index ? move.label : labelOf(move)));
-    return said.map((text, index) => {
-      const button = document.createElement('button');
-      button.type = 'button';
-      button.className = row.word ? 'move word' : 'move';
-      button.textContent = text;
-      button.onclick = () => this.go(row, index);
-      return button;
-    });
+    const className = row.word ? 'move word' : 'move';
+    return said.map((text, index) => Object.assign(madeWith('button', text), { type: 'button', className, onclick: () => this.go(row, index) }));
   }
 
   /**
@@ -475,8 +439,7 @@ export class Tree {
     const button = row.buttons[index];
     button.setAttribute('aria-current', 'true');
     this.bringToSight(button);
-    const moves = movesTo(this.current);
-    this.showPlace({ start: row.group.men, moves, item: row.group.item });
+    this.showPlace({ start: row.group.men, moves: [...row.path, ...row.moves.slice(0, index + 1)], item: row.group.item });
   }
 
   /**

@@ -44,9 +44,7 @@ interface Move {
   castling: string | null; promotion: string | null; rebirth: Rebirth | null; mark: string | null;
 }
 /** A stipulation with its condition. */
-interface Asked {
-  line: string; text: string; isHelp: boolean; play: string; goal: string; moves: number; halfMoves: number; condition: string | null;
-}
+interface Asked { line: string; text: string; isHelp: boolean; moves: number; halfMoves: number; condition: string | null }
 /** A line of a phase; `level` counts the lines that it continues. It has moves, or a word below a first move. */
 interface Solution { line: string; moves: Move[]; level: number; word?: string }
 /** Set play, play or tries; its total is null while it isn't complete. */
@@ -145,8 +143,8 @@ interface Explanation { text: string; marks: Span[] }
 interface Corrected { text: string; asksForTries: boolean; refutations: number }
 /** Work in steps, which may return further work. */
 interface WorkSteps extends Generator<void, WorkSteps | void> {}
-/** The words of a problem, and whether a word ends it. */
-interface ProblemWords { tokens: Token[]; isClosed: boolean }
+/** The words of a problem, and the one that closes it. */
+interface ProblemWords { tokens: Token[]; closing: Token | null }
 /** A line of the text, in pieces. */
 interface MarkedLine { line: number; pieces: { text: string; isMarked: boolean }[] }
 

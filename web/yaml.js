@@ -32,14 +32,6 @@ function withoutComment(line) {
   return (line.slice(0, after) + line.slice(after).replace(comment, '$1')).trimEnd();
 }
 
-/**
- * Returns the lines of a document with content: { indent, text }.
- * @param {string} document
- */
-function yamlLines(document) {
-  return document.split('\n').filter(line => !line.startsWith('%')).map(line => ({ indent: line.length - line.trimStart().length, text: withoutComment(line).trim(), raw: line }));
-}
-
 // What an escape in double quotes stands for; another one stays as it is written.
 /** @type {Record<string, string>} */
 const ESCAPES = {
@@ -104,32 +96,19 @@ function folded(lines, sign) {
  */
 function flow(text) {
   const words = text.match(/\s*(?:"(?:[^"\\]|\\[^])*"|'(?:[^']|'')*'|[[\]{},]|:(?=\s|$)|(?:[^[\]{},:]|:(?!\s|$))+)/g)?.map(it => it.trim()).filter(Boolean) ?? [];
-  const parts = new Parts(words);
-  const value = flowValue(parts, 1);
-  if (parts.next !== undefined) throw new YamlError(text);
+  const value = flowValue(words.reverse(), 1);
+  if (words.length) throw new YamlError(text);
   return value;
 }
 
-/** The parts of a flow, one after another. */
-class Parts {
-  /** @param {string[]} parts */
-  constructor(parts) {
-    this.parts = parts;
-    this.at = 0;
-  }
-
-  get next() {
-    return this.parts[this.at];
-  }
-
-  take() {
-    return this.parts[this.at++];
-  }
-}
-
-/** @param {Parts} parts @param {number} level @returns {any} */
+/**
+ * Returns the value that some words say; takes them, which are in reverse order.
+ * @param {string[]} parts
+ * @param {number} level
+ * @returns {any}
+ */
 function flowValue(parts, level) {
-  const first = parts.take();
+  const first = parts.pop();
   if (first === undefined) throw new YamlError('the text ends too early');
   if (first !== '[' && first !== '{') return scalar(first);
   refuseLevel(level);
@@ -137,17 +116,17 @@ function flowValue(parts, level) {
   /** @type {any[]} */
   const list = [];
   const found = py.dict();
-  while (parts.next !== (isList ? ']' : '}')) {
+  while (parts.at(-1) !== (isList ? ']' : '}')) {
     if (isList) list.push(flowValue(parts, level + 1));
     else {
-      const key = scalar(parts.take() ?? '');
-      if (parts.take() !== ':') throw new YamlError(key);
+      const key = scalar(parts.pop() ?? '');
+      if (parts.pop() !== ':') throw new YamlError(key);
       found.put(key, flowValue(parts, level + 1));
     }
-    if (parts.next === ',') parts.take();
-    if (parts.next === undefined) throw new YamlError('the text ends too early');
+    if (parts.at(-1) === ',') parts.pop();
+    if (parts.at(-1) === undefined) throw new YamlError('the text ends too early');
   }
-  parts.take();
+  parts.pop();
   return isList ? list : found;
 }
 
@@ -248,25 +227,17 @@ class YamlReader {
     const items = [];
     for (let next = this.line; next && next.indent === indent && next.text.startsWith('-'); next = this.line) {
       const text = next.text.slice(1).trim();
-      if (KEY.test(text)) items.push(this.mappingAfterSign(next, text));
-      else {
+      if (KEY.test(text)) {
+        // (a mapping on the line of its sign goes on below its first key)
+        const own = indent + next.text.length - text.length;
+        this.lines[this.at] = { ...next, indent: own, text };
+        items.push(this.mapping(own));
+      } else {
         this.at++;
         items.push(this.value(text, indent));
       }
     }
     return items;
-  }
-
-  /**
-   * Returns a mapping that begins on the line of its sign `-`, and goes on below its first key.
-   * @param {YamlLine} line
-   * @param {string} text
-   * @returns {any}
-   */
-  mappingAfterSign(line, text) {
-    const indent = line.indent + line.text.length - text.length;
-    this.lines[this.at] = { ...line, indent, text };
-    return this.mapping(indent);
   }
 
   /** @param {number} indent @returns {any} */
@@ -337,7 +308,8 @@ function parted(lines) {
 
 /** @param {string} document */
 function nodeOf(document) {
-  const reader = new YamlReader(yamlLines(document));
+  const lines = document.split('\n').filter(line => !line.startsWith('%'));
+  const reader = new YamlReader(lines.map(raw => ({ indent: raw.length - raw.trimStart().length, text: withoutComment(raw).trim(), raw })));
   const first = reader.line;
   const read = first?.text.startsWith('- ') ? 'list' : 'mapping';
   const found = first ? reader[read](first.indent) : py.dict();

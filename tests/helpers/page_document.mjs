@@ -1,4 +1,6 @@
 // A stand-in for a browser's document, and the gestures of a user.
+import { readFileSync } from 'node:fs';
+
 // An element: a box of children with text, attributes and listeners.
 export class Thing {
   constructor(tag) {
@@ -77,12 +79,26 @@ export function made(name) {
   return thing;
 }
 
+const TEMPLATE = readFileSync(new URL('../../web/template.html', import.meta.url), 'utf8');
+
+// Returns the elements of the page's template that have a name and an attribute, as [data-word]; others are not found.
+function withAttribute(selector) {
+  const wanted = /^\[data-(\w+)\]$/.exec(selector)?.[1];
+  return [...TEMPLATE.matchAll(/<\w+ id="([\w-]+)"[^>]*>/g)].flatMap(([tag, name]) => {
+    const word = new RegExp(` data-${wanted}="(\\w+)"`).exec(tag)?.[1];
+    if (!word) return [];
+    const thing = document.getElementById(name);
+    thing.dataset[wanted] = word;
+    return [thing];
+  });
+}
+
 Object.assign(globalThis, {
   document: {
     activeElement: null, body: new Thing('body'), documentElement: new Thing('html'),
     getElementById: name => known.get(name) ?? made(name),
     createElement: tag => new Thing(tag), createElementNS: (_, tag) => new Thing(tag),
-    querySelectorAll: () => [], addEventListener() {},
+    querySelectorAll: withAttribute, addEventListener() {},
     elementFromPoint: () => ({ closest: () => known.get(under) ?? null }),
   },
   addEventListener: (name, act) => listeners.set(name, [...(listeners.get(name) ?? []), act]),

@@ -1,18 +1,10 @@
 // @ts-check
 // Work of chores.js: short work is done at once, long work by a worker beside the page, which reacts meanwhile.
 import { choreDone, choreMessage } from '../chores.js';
-import { partText } from '../elements.js';
+import { partText, workerOf } from '../elements.js';
 
 // In letters.
 export const SHORT_WORK = 5000;
-
-function makeHelper() {
-  const script = [...document.querySelectorAll('script')].find(it => !it.type)?.textContent ?? '';
-  const source = URL.createObjectURL(new Blob([script], { type: 'text/javascript' }));
-  const helper = new Worker(source);
-  URL.revokeObjectURL(source);
-  return helper;
-}
 
 /**
  * Does some work, and passes its result on. Returns whether it was done at once.
@@ -26,7 +18,7 @@ export function doChore(name, given, take, refuse) {
     take(choreDone(name, given));
     return true;
   }
-  const helper = makeHelper();
+  const helper = workerOf([...document.querySelectorAll('script')].find(it => !it.type)?.textContent ?? '');
   helper.onmessage = ({ data }) => {
     helper.terminate();
     take(data);

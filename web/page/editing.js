@@ -127,19 +127,12 @@ function withBlock(act) {
 export const change = changer => withBlock(block => {
   const { men, unknown } = menOf(block);
   const changed = changer(men);
-  if (unknown.length) noteUnknown(unknown[0]);
+  const [word] = unknown;
+  const isThere = () => Boolean(blockNow() && menOf(/** @type {Block} */ (blockNow())).unknown.includes(word));
+  if (word) note(say('unknownWord', { word: word.slice(0, 40) }), isThere);
   else if (changed) setText(withMen(textNow(), block.from, changed));
   else note(say('leaves'));
 });
-
-/** @param {string} word */
-function noteUnknown(word) {
-  const isThere = () => {
-    const block = blockNow();
-    return block !== null && menOf(block).unknown.includes(word);
-  };
-  note(say('unknownWord', { word: word.slice(0, 40) }), isThere);
-}
 
 /** @param {string} name */
 export function changeBoard(name) {
@@ -236,22 +229,18 @@ export function takeText(given) {
  */
 export function insertText(given) {
   endTyping();
-  const [text, selected] = [textNow(), selectionNow()];
+  const [text, selected, { sheet }] = [textNow(), selectionNow(), state];
   /** @param {Imported} made */
   const put = made => {
+    // (another text as a whole may have replaced the one that it was pasted into)
+    if (state.sheet !== sheet && textNow() !== text) {
+      note(say('importLate'));
+      return;
+    }
     insertAt(textNow() === text ? selected : selectionNow(), made.text ?? given);
     sayImported(made);
   };
-  if (!doChore('import', { text: given }, unlessReplaced(put), fault => note(say('failed', { fault })))) note(say('importing'));
-}
-
-/**
- * Returns what takes a pasted text, or says that it comes too late, if another text as a whole has replaced the one it was pasted into.
- * @param {(made: Imported) => void} take
- */
-function unlessReplaced(take) {
-  const [text, { sheet }] = [textNow(), state];
-  return (/** @type {Imported} */ made) => (state.sheet === sheet || textNow() === text ? take(made) : note(say('importLate')));
+  if (!doChore('import', { text: given }, put, fault => note(say('failed', { fault })))) note(say('importing'));
 }
 
 /**

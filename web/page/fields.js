@@ -1,6 +1,6 @@
 // @ts-check
 // The fields of the problem on the board: its names, its stipulation, its condition and its options.
-import { element, LONGEST_SHOWN, madeWith, shortened } from '../elements.js';
+import { element, LONGEST_SHOWN, shortened } from '../elements.js';
 import { sayCondition } from '../names.js';
 import { partsOfStipulation, stipulationOf } from '../play.js';
 import { CONDITIONS, fieldsOf, FLAGS, isShort, valueOf, VALUES, withField } from '../text.js';
@@ -8,12 +8,7 @@ import { say } from '../words.js';
 import { endTyping, setText } from './editing.js';
 import { blockNow, state, textNow } from './state.js';
 
-const FIELDS = [
-  ['Title', 'title'], ['Author', 'author'], ['Origin', 'origin'], ['Stipulation', 'stipulation'], ['Condition', 'condition'],
-  ['SetPlay', 'setPlay'], ['Variation', 'variation'], ['NoBoard', 'noBoard'],
-  ['MaxSolutions', 'maxSolutions'], ['EnPassant', 'enPassant'], ['NoCastling', 'noCastling'],
-];
-
+const FIELDS = ['Title', 'Author', 'Origin', 'Stipulation', 'Condition', ...FLAGS, ...VALUES];
 const FORMS = ['#', 's#', 'h#', '=', 's=', 'h='];
 
 /** @param {string} name @returns {HTMLInputElement} the field, which may be a select */
@@ -23,13 +18,13 @@ const inputOf = name => /** @type {any} */ (element(`field-${name}`));
 export function showFields() {
   const block = blockNow();
   const fields = block ? fieldsOf(textNow(), block) : {};
-  for (const [name] of FIELDS) {
+  for (const name of FIELDS) {
     const input = inputOf(name);
     const whole = valueOf(fields, name in fields ? name : name.toLowerCase());
     const said = whole === null ? null : shortened(whole);
     input.disabled = !block || (whole ?? '').length > LONGEST_SHOWN;
     if (name === 'Stipulation') showStipulation(said ?? '', input.disabled);
-    else if (input.type === 'checkbox') input.checked = said !== null;
+    else if (FLAGS.includes(name)) input.checked = said !== null;
     else if (name === 'Condition') input.value = CONDITIONS.find(it => said && isShort(said, it)) ?? '';
     else if (document.activeElement !== input) input.value = said ?? '';
   }
@@ -52,66 +47,22 @@ function showStipulation(word, isDisabled) {
 }
 
 /**
- * Returns what a field has for the text; null removes it.
- * @param {string} name
- */
-function valueIn(name) {
-  const input = inputOf(name);
-  if (name === 'Stipulation') return stipulationOf(input.value, inputOf('Moves').value);
-  return input.type === 'checkbox' ? (input.checked ? '' : null) : input.value.trim() || null;
-}
-
-/**
- * Writes a field's value into the text.
+ * Writes a field's value into the text, or removes it.
  * @param {string} name
  */
 export function fieldChanged(name) {
   endTyping();
-  const value = valueIn(name);
+  const input = inputOf(name);
+  const said = FLAGS.includes(name) ? (input.checked ? '' : null) : input.value.trim() || null;
+  const value = name === 'Stipulation' ? stipulationOf(input.value, inputOf('Moves').value) : said;
   state.whenRead(() => {
     const block = blockNow();
     if (block) setText(withField(textNow(), block.from, name, value));
   });
 }
 
-/** Makes the rows of fields: flags in one, short values in another, and each other field by itself. */
-function fieldRows() {
-  return Object.fromEntries(['row', 'values'].map(name => {
-    const made = document.createElement('div');
-    made.className = name;
-    return [name, made];
-  }));
-}
-
-/** @param {string} name @param {string} word */
-function builtField(name, word) {
-  const isFlag = FLAGS.includes(name);
-  const label = document.createElement('label');
-  const said = madeWith('span', say(word));
-  const input = document.createElement(['Condition', 'Stipulation'].includes(name) ? 'select' : 'input');
-  input.id = `field-${name}`;
-  if (name === 'Condition') input.append(new Option(say('noCondition'), ''), ...CONDITIONS.map(it => new Option(sayCondition(it), it)));
-  else if (name !== 'Stipulation') /** @type {HTMLInputElement} */ (input).type = isFlag ? 'checkbox' : 'text';
-  input.onchange = () => fieldChanged(name);
-  label.append(...(isFlag ? [input, said] : [said, input, ...(name === 'Stipulation' ? [movesField()] : [])]));
-  if (!isFlag) label.className = 'field';
-  return label;
-}
-
-/** Makes the number of moves, beside the choice of the stipulation. */
-function movesField() {
-  const made = document.createElement('input');
-  Object.assign(made, { id: 'field-Moves', type: 'number', min: '0.5', max: '16' });
-  made.setAttribute('aria-label', say('moves'));
-  made.onchange = () => fieldChanged('Stipulation');
-  return made;
-}
-
 export function buildFields() {
-  const rows = fieldRows();
-  for (const [name, word] of FIELDS) {
-    const row = FLAGS.includes(name) ? rows.row : VALUES.includes(name) ? rows.values : element('fields');
-    row.append(builtField(name, word));
-  }
-  element('fields').append(rows.row, rows.values);
+  inputOf('Condition').append(new Option(say('noCondition'), ''), ...CONDITIONS.map(it => new Option(sayCondition(it), it)));
+  for (const name of FIELDS) inputOf(name).onchange = () => fieldChanged(name);
+  inputOf('Moves').onchange = () => fieldChanged('Stipulation');
 }

@@ -5,7 +5,7 @@ import { imported, isOfAnother } from '../importing.js';
 import { readFen } from '../position.js';
 import { LONG_TEXT } from '../slices.js';
 import { MOST_FILE_BYTES, textOfBytes } from '../store.js';
-import { blockAt, blocksOf, hasProblem, joinedTexts, NEW_PROBLEM, withFen } from '../text.js';
+import { blocksOf, hasProblem, joinedTexts, NEW_PROBLEM, withFen } from '../text.js';
 import { say } from '../words.js';
 import { isLongWith, selectionNow } from './area.js';
 import { doChore, SHORT_WORK } from './beside.js';
@@ -67,7 +67,10 @@ async function takeMany(files) {
     if (made?.text && !read?.isUtf8) names.latin.push(file.name);
   }
   note('');
-  const isAsked = taken.length > 0 && takeProblems(joinedFiles(taken.map(it => it.made)));
+  const all = taken.map(it => it.made);
+  const isAsked = taken.length > 0 && takeProblems({
+    text: joinedTexts(all.map(it => it.text ?? '')), asksForTries: all.some(it => it.asksForTries), refutations: Math.max(...all.map(it => it.refutations)),
+  });
   const problems = taken.length ? blocksOf(textNow()).length : 0;
   const lost = taken.flatMap(({ name, made }) => made.lost.map(reason => `${name}: ${reason}`));
   note([
@@ -82,22 +85,13 @@ async function takeMany(files) {
  */
 async function problemsIn(text) {
   const fen = readFen(text);
-  const begun = blockAt(NEW_PROBLEM, 0);
-  if (fen && begun) return owned(withFen(NEW_PROBLEM, begun.from, fen));
+  if (fen) return owned(withFen(NEW_PROBLEM, 0, fen));
   if (text.length < LONG_TEXT && isOfAnother(text)) return new Promise(take => { doChore('import', { text }, take, () => take(null)); });
   return hasProblem(text) ? owned(text) : null;
 }
 
 /** @param {string} text @returns {Imported} */
 const owned = text => ({ text, lost: [], asksForTries: false, refutations: 0 });
-
-/**
- * Joins the problems of several files.
- * @param {Imported[]} all
- */
-const joinedFiles = all => ({
-  text: joinedTexts(all.map(it => it.text ?? '')), asksForTries: all.some(it => it.asksForTries), refutations: Math.max(...all.map(it => it.refutations)),
-});
 
 /**
  * Names the files that weren't read, or not as UTF-8.
@@ -128,9 +122,9 @@ function pasted(event) {
   const text = (event.clipboardData?.getData('text/plain') ?? '').replace(/^\ufeff/, '');
   const isField = /** @type {Element} */ (event.target).closest?.('input, select');
   const isText = event.target === element('text');
-  if (isField || !text) return;
-  if (isTooLong(isText ? lengthBesideSelection() + text.length : text.length)) event.preventDefault();
-  else takePasted(event, text, isText);
+  if (!text) return;
+  if (isTooLong((isText ? lengthBesideSelection() : isField ? textNow().length : 0) + text.length)) event.preventDefault();
+  else if (!isField) takePasted(event, text, isText);
 }
 
 /**
@@ -168,12 +162,26 @@ function isAmongText() {
 /** @param {DragEvent} event */
 function dropped(event) {
   document.body.classList.remove('dropping');
-  if (!isDroppable(event)) return;
-  event.preventDefault();
   const { dataTransfer } = event;
   const text = dataTransfer?.getData('text/plain') ?? '';
+  if (!isDroppable(event)) {
+    dropIntoText(event, text);
+    return;
+  }
+  event.preventDefault();
   if (dataTransfer?.files.length) takeFiles(dataTransfer.files);
   else if (!isTooLong(text.length)) takeText(text);
+}
+
+/**
+ * Puts a dropped text into the text box's own, where this would take the browser long; a text that is too long is refused.
+ * @param {DragEvent} event
+ * @param {string} text
+ */
+function dropIntoText(event, text) {
+  if (!text || !isLongWith(text)) return;
+  event.preventDefault();
+  if (!isTooLong(lengthBesideSelection() + text.length)) insertLong(text);
 }
 
 /**

@@ -2,9 +2,8 @@
 // Draws the report: its text, its solutions and its faults, and marks what isn't of the problem on the page any more. A growing report is drawn
 // after pauses.
 import { element, LONGEST_SHOWN, shortened } from '../elements.js';
-import { menOfRanks } from '../position.js';
 import { inSlices } from '../slices.js';
-import { menOf } from '../text.js';
+import { menOfItem } from '../text.js';
 import { drawnFault, faultWork, markFaults } from './faults.js';
 import { state } from './state.js';
 import { tree } from './views.js';
@@ -17,16 +16,6 @@ const LINES_AT_ONCE = 2000;
 const inSight = { letters: 0, lines: 0, most: LINES_AT_ONCE };
 /** @type {{ timer: ReturnType<typeof setTimeout> | null, pause: number, endReading: (() => void) | null }} the next drawing, the pause before it, what ends its reading */
 const drawing = { timer: null, pause: LEAST_PAUSE, endReading: null };
-
-/**
- * Returns the men of an item's diagram: from the report, or from the text if the report shows no board.
- * @param {Item} item
- */
-function diagramMen(item) {
-  if (item.ranks.length) return menOfRanks(item.ranks);
-  const block = state.solvedBlocks[item.number - 1];
-  return block ? menOf(block).men : new Map();
-}
 
 /** Shows the lines of the report that aren't shown yet, up to the requested number. */
 function showReport() {
@@ -58,7 +47,7 @@ export function drawReport() {
   element('report').textContent = '';
   showReport();
   element('beginning').hidden = !state.isBeginning;
-  tree.draw(state.items, diagramMen, drawnFault);
+  tree.draw(state.items, item => menOfItem(item, state.solvedBlocks[item.number - 1]), drawnFault);
   showAge();
   markFaults();
 }

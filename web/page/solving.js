@@ -2,7 +2,7 @@
 // Solves the text on the page: starts and stops the workers, and says how far they are.
 import { UTF8 } from '../codecs.js';
 import { Crew } from '../crew.js';
-import { element, partText } from '../elements.js';
+import { element, partText, workerOf } from '../elements.js';
 import { Solving } from '../solving.js';
 import { nameOfText } from '../store.js';
 import { blocksOf } from '../text.js';
@@ -90,9 +90,7 @@ export function sayDone(answer, milliseconds) {
 }
 
 function makeWorker() {
-  const source = URL.createObjectURL(new Blob([partText('worker')], { type: 'text/javascript' }));
-  const worker = new Worker(source);
-  URL.revokeObjectURL(source);
+  const worker = workerOf(partText('worker'));
   worker.postMessage({ engine: run.engine });
   return worker;
 }

@@ -4,7 +4,7 @@ import { element } from '../elements.js';
 import { readFen } from '../position.js';
 import { LONG_TEXT } from '../slices.js';
 import { latestSteps, MOST_KEPT_LETTERS, textOfFragment, visitOf, writtenVisit } from '../store.js';
-import { blockAt, NEW_PROBLEM, withFen } from '../text.js';
+import { NEW_PROBLEM, withFen } from '../text.js';
 import { language, say } from '../words.js';
 import { endTyping, keepText, takeText } from './editing.js';
 import { exampleText, isNobodys, keepProblem, storedByTab, unkeptText } from './keeping.js';
@@ -120,11 +120,9 @@ export function openLink() {
   const linked = textOfFragment(location.hash);
   if (location.hash === link) return;
   link = location.hash;
-  if (linked === null) return;
-  if (linked === textNow()) return;
+  if (linked === null || linked === textNow()) return;
   const fen = readFen(linked);
-  const begun = blockAt(NEW_PROBLEM, 0);
-  takeText(fen && begun ? withFen(NEW_PROBLEM, begun.from, fen) : linked);
+  takeText(fen ? withFen(NEW_PROBLEM, 0, fen) : linked);
   keepProblem(textNow(), { isLinked: true });
   note(say('linkOpened'));
 }
