@@ -6,7 +6,6 @@ from dataclasses import dataclass, field, replace
 from typing import NamedTuple, Optional
 
 from pops_companions.import_.draft import Draft
-from pops_companions.import_.language import Command
 from pops_companions.import_.options import option_left_out
 from pops_companions.import_.posing import COLOURS_TURNED, ZERO_POSITION, posed
 from pops_companions.import_.sources import read_drafts
@@ -180,7 +179,7 @@ def read_problems(text: str) -> Reading:
 
 
 def _title_of(draft: Draft) -> str:
-    return "; ".join(text for command, text in draft.texts if command is Command.TITLE and text)
+    return "; ".join(text for command, text in draft.texts if command == "Title" and text)
 
 
 def joined(
