@@ -140,9 +140,9 @@ def write(
     for explained in explain(text, counted(), places):
         faulty += 1
         show(explained)
-        for other in further_faults(text, pieces, explained.problem) if every else ():
+        for other in further_faults(text, pieces, explained.problem, explained.title) if every else ():
             further += 1
-            show(other.explained(explained.title))
+            show(other)
     if not total:
         raise OtherText("it is empty")
     noticed = "".join(notice.shown(name) for notice in notices(text))

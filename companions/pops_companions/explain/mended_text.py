@@ -49,7 +49,7 @@ class _Line:
     @classmethod
     def of(cls, text: bytes, reading: Reading) -> "_Line":
         """Returns the line of a reading's fault, which for a fault at the end has nothing in it."""
-        at = Span(len(text), len(text)) if reading.at is None else reading.word.span
+        at = reading.fault_span
         start, end = text.rfind(b"\n", 0, at.start) + 1, text.find(b"\n", at.stop)
         span = Span(start if reading.at is not None else at.start, len(text) if end < 0 else end)
         return cls(span, text[span.start : span.stop])

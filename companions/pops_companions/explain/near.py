@@ -4,7 +4,7 @@ import re
 from collections.abc import Sequence
 from typing import NamedTuple, Optional
 
-from pops_companions.input.pieces import Piece, Stops, cut, stop_after
+from pops_companions.input.pieces import Piece, cut, stop_after
 from pops_companions.input.reading import Reading, read_on
 from pops_companions.input.words import Span
 
@@ -54,11 +54,12 @@ class Near:
         """Whether it ends with the whole text."""
         return self.stop == len(self._whole)
 
-    def grow(self, stops: Stops = Stops.BEGIN_OR_END) -> bool:
-        """Takes in what follows, up to the next one of these words. Returns whether anything does."""
+    def grow(self, only_ends: bool = False) -> bool:
+        """Takes in what follows, up to the next word that ends a problem, or begins one. Returns whether
+        anything does."""
         if self.is_all:
             return False
-        stop = stop_after(self._whole, self.stop, stops)
+        stop = stop_after(self._whole, self.stop, only_ends)
         self.text += self._whole[self.stop : stop]
         self.stop = stop
         return True
@@ -97,7 +98,7 @@ class Near:
     def end(self) -> Optional[End]:
         """Returns where the problem ends; None where the whole text does."""
         piece = self._piece()
-        while piece is not None and not piece.closed and self.grow(Stops.END):
+        while piece is not None and not piece.closed and self.grow(only_ends=True):
             piece = self._piece()
         if piece is None or not piece.closed:
             return None

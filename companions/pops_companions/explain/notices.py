@@ -10,12 +10,11 @@ from pops_companions.explain.characters import decoded
 from pops_companions.explain.vocabulary import foreign, unread
 from pops_companions.input.pieces import Piece, cut, rest_of
 from pops_companions.input.reading import Reading, read_piece
-from pops_companions.input.words import TextLine, TextWord
+from pops_companions.input.words import TextLine
 from pops_companions.show.titles import is_text
 
 _NIGHTRIDERS = "`N` is a nightrider, and there is no knight: knights are `S`"
 _OF_POPEYE = "is a word of Popeye: `pops-import FILE` makes an input of pops of Popeye's inputs"
-_NAMES = (TextWord.TITLE, TextWord.AUTHOR)
 
 
 class Notice(NamedTuple):
@@ -43,7 +42,7 @@ def notices(text: bytes) -> Iterator[Notice]:
 
 def _of_problem(text: bytes, piece: Piece) -> Iterator[Notice]:
     for token in piece.tokens(text):
-        if isinstance(token, TextLine) and token.kind in _NAMES:
+        if isinstance(token, TextLine) and token.name in ("Title", "Author"):
             if not is_text(token.text, "utf-8"):
                 said = f"`{token.name}` isn't UTF-8: the companions read it as Latin-1"
                 yield Notice(token.word.line, piece.number, said)

@@ -12,7 +12,7 @@ from pops_companions.import_.twins import with_other_colour
 from pops_companions.import_.words import Message
 from pops_companions.input.given import LONGEST_TEXT
 from pops_companions.input.reading import en_passant_wants
-from pops_companions.input.writing import pieces_line
+from pops_companions.input.writing import pieces_line, posing_lines
 
 # How much of what is said of a whole problem its further twins repeat: Origins, and notes, and how
 # many letters of each.
@@ -282,9 +282,6 @@ class _Checked:
     def lines(self) -> list[str]:
         """Returns men, stipulation, condition and options."""
         assert self._stipulation is not None
-        lines = [pieces_line(self._men), f"Stipulation {self._stipulation.text}"]
-        if self._condition is not None:
-            lines.append(f"Condition {self._condition.value}")
         options = self._version.options
         words = list(options.words)
         if options.max_solutions is not None:
@@ -293,9 +290,7 @@ class _Checked:
             words.append(f"EnPassant {self._crossed.name}")
         if options.may_not_castle:
             words.append("NoCastling " + "".join(one.name for one in options.may_not_castle))
-        if words:
-            lines.append("Option " + " ".join(words))
-        return lines
+        return posing_lines(self._men, self._stipulation, self._condition, words)
 
 
 def _texts(said: _Said, version: _Version, notes: list[Message], is_first: bool) -> list[str]:

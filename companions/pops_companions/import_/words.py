@@ -115,13 +115,11 @@ class Words:
             if word is None:
                 return None
             command = meaning_of_three(word.key, self.language.commands)
-            if command not in TEXT_COMMANDS or self._is_twinning(word):
+            twinning = meaning(word.key, self.language.twinnings) if self.of_twin else None
+            if command not in TEXT_COMMANDS or twinning is not None:
                 return word
             self._at, self._line = word.end, word.line
             self.put_text_line_aside(command)
-
-    def _is_twinning(self, word: Word) -> bool:
-        return self.of_twin and meaning(word.key, self.language.twinnings) is not None
 
     def _word(self) -> Optional[Word]:
         at, line = self._at, self._line
