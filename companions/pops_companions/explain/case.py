@@ -6,7 +6,7 @@ from dataclasses import dataclass, replace
 from typing import Optional
 
 from pops_companions.explain.characters import beginning, decoded
-from pops_companions.explain.sentences import sentence
+from pops_companions.explain.sentences import DATA, sentence
 from pops_companions.input.reading import COMMANDS, CONDITIONS, OPTIONS, Reading, step
 from pops_companions.input.words import LONGEST_WORD, TEXT_WORDS, Span, TextLine, Word, named
 
@@ -15,6 +15,17 @@ _LONGEST_QUOTED = 48
 _NEAR = 400
 _LAST_WORD = re.compile(rb"([^\t\n\x0b\x0c\r ]+)[\t\n\x0b\x0c\r ]+$")
 NAMES = (*COMMANDS, *TEXT_WORDS, *CONDITIONS, *OPTIONS, "White", "Black")
+
+
+def _form(text: str) -> "re.Pattern[str]":
+    """Returns the pattern of a form; one without capital letters holds of them too."""
+    return re.compile(text, 0 if re.search("[A-Z]", text) else re.IGNORECASE)
+
+
+# Forms of words, each with the sentence that explains it, and what the word is.
+_FORMS = {
+    which: [(_form(it[0]), it[1], it[2]) for it in rows] for which, rows in DATA["forms"].items()
+}
 
 
 @dataclass(frozen=True)
@@ -93,6 +104,14 @@ class Case:
     def mends(self, which: str, mended: str) -> Optional[Explanation]:
         """Returns a sentence with what the faulty word is to be; None where that doesn't fit."""
         return self.tells(which, mended=mended) if self.fits(mended) else None
+
+    def by_form(self, which: str) -> Optional[Explanation]:
+        """Returns what the table of forms says of the faulty word, with the part in brackets as `first`."""
+        for form, name, what in _FORMS[which]:
+            found = form.fullmatch(self.plain)
+            if found is not None:
+                return self.tells(name, first=found[1], what=what, forms=sentence("forms"))
+        return None
 
     def fits(self, text: str) -> bool:
         """Returns whether these words could stand in place of the faulty one."""

@@ -94,11 +94,9 @@ def _compare_place(number: int, reading: Reading, place: Optional[Span]) -> None
 
 
 def _title(reading: Reading) -> Optional[bytes]:
-    title = None
-    for token in [*reading.tokens, *reading.later()]:
-        if isinstance(token, TextLine) and token.name == "Title":
-            title = token.text.strip()
-    return title or None
+    tokens = [*reading.tokens, *reading.later()]
+    lines = [it for it in tokens if isinstance(it, TextLine) and it.name == "Title"]
+    return lines[-1].text.strip() or None if lines else None
 
 
 _WITHOUT_WORD: dict[int, str] = {

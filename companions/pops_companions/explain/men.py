@@ -23,7 +23,8 @@ def colour_missing(case: Case) -> Iterator[Optional[Explanation]]:
     opener = case.reading.opener
     assert opener is not None
     yield from wordings.characters_in(case)
-    yield _colour_before_man(case)
+    # (`Bbe8` may have a letter too many)
+    yield case.by_form("colour")
     yield _short_command(case)
     if len(case.openers_of("Pieces")) > 1:
         yield case.tells("colour_of_each", opener.span, opener=quoted(opener))
@@ -31,14 +32,6 @@ def colour_missing(case: Case) -> Iterator[Optional[Explanation]]:
     if after is not None and named(after.bytes, COLOURS, 1):
         yield case.tells("colour_first", after.span, colour=decoded(after.bytes))
     yield case.tells("no_colour", opener.span, opener=quoted(opener))
-
-
-def _colour_before_man(case: Case) -> Optional[Explanation]:
-    word = case.word.bytes
-    # (`Bbe8` may have a letter too many)
-    if word[:1] != b"b" or not word[1:2].isupper() or not is_man(word[1:]):
-        return None
-    return case.tells("black_apart", rest=case.plain[1:])
 
 
 def _short_command(case: Case) -> Optional[Explanation]:
@@ -115,7 +108,7 @@ def square_missing(case: Case) -> Iterator[Optional[Explanation]]:
     """Explains a man without a square."""
     yield from wordings.characters_in(case)
     yield squares_alone(case)
-    yield _colour_before_man(case)
+    yield case.by_form("colour")
     yield _letter_alone(case)
     yield _short_command(case)
     reversed_squares = _DIGITS_FIRST.fullmatch(case.plain)

@@ -89,13 +89,13 @@ class _Mender:
         if reading is None or reading.number is not None:
             near.grow()
             self._mend(near)
-        end = near.end()
-        if end is None:
+        closing = near.closing()
+        if closing is None:
             self._finish(near.text[near.begin :] + self._text[near.stop :])
             return False
-        self._pass_on(near, end.after)
-        self._done.append(near.text[near.begin : end.stop])
-        self._closing = near.text[end.stop : end.after]
+        self._pass_on(near, closing.stop)
+        self._done.append(near.text[near.begin : closing.start])
+        self._closing = near.text[closing.start : closing.stop]
         self._number += 1
         if not self._goes_on():
             self._finish(self._closing + self._text[self._place :])

@@ -54,7 +54,7 @@ def begin_problem_missing(case: Case) -> Iterator[Optional[Explanation]]:
             yield case.tells("other_file", what=what)
     if case.text.startswith(b"problem 1\n"):
         yield case.tells("report")
-    yield wordings.position(case)
+    yield case.by_form("position")
     if _belongs_inside(case):
         yield case.tells("begin_missing")
     yield wordings.comment(case)
@@ -83,7 +83,7 @@ def word_misplaced(case: Case) -> Iterator[Optional[Explanation]]:
     yield wanted.numbers(case)
     yield wanted.men(case)
     yield _wrong_section(case)
-    yield wordings.position(case)
+    yield case.by_form("position")
     if section == "Pieces":
         yield from _causes_among_men(case)
     yield wordings.parted(case)
@@ -152,9 +152,7 @@ def _home_of(word: bytes) -> Optional[tuple[str, str]]:
 
 def _causes_among_men(case: Case) -> Iterator[Optional[Explanation]]:
     yield squares_alone(case)
-    word = case.word.bytes
-    if word[:1] == b"w" and word[1:2].isupper() and is_man(word[1:]):
-        yield case.tells("white_apart", rest=case.plain[1:])
+    yield case.by_form("colour")
     yield case.mends("letter_for_digit", re.sub("([a-hA-H])[lI|]", r"\g<1>1", case.plain))
     yield man_by_name(case)
     yield foreign_letter(case)

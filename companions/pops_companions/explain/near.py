@@ -23,13 +23,6 @@ class Edit(NamedTuple):
         return text[: self.span.start] + self.text + text[self.span.stop :]
 
 
-class End(NamedTuple):
-    """Where a problem ends in its text of its own: before the word that closes it, and after it."""
-
-    stop: int
-    after: int
-
-
 class Near:
     """A problem of a text, up to a word that begins or ends another one, as a text of its own.
 
@@ -95,8 +88,8 @@ class Near:
         if self._known is not None and not self._known.before_fault().stays(self.text, edit.span.start):
             self._forget()
 
-    def end(self) -> Optional[End]:
-        """Returns where the problem ends; None where the whole text does."""
+    def closing(self) -> Optional[Span]:
+        """Returns where the word stands that closes the problem; None where the whole text ends first."""
         piece = self._piece()
         while piece is not None and not piece.closed and self.grow(only_ends=True):
             piece = self._piece()
@@ -104,7 +97,7 @@ class Near:
             return None
         word = _WORD.match(self.text, piece.stop)
         assert word is not None
-        return End(piece.stop, word.end())
+        return Span(piece.stop, word.end())
 
     def _piece(self) -> Optional[Piece]:
         pieces = cut(self.text)

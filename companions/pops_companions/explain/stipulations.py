@@ -16,8 +16,6 @@ _FORMS = sentence("forms")
 _STIPULATION = re.compile(r"(?:[a-zA-Z]{0,5}-)?[a-zA-Z]{0,2}(?:#|==?)[0-9]+(?:\.5)?")
 _GOOD = re.compile(r"([shSH]?)([#=])([0-9]+)(\.5)?")
 _KNOWN: dict[str, Any] = DATA["stipulations"]
-# Words of a form that pops lacks, which sentence explains them, and what they are.
-_OTHER_FORMS = [(re.compile(it[0], re.IGNORECASE), it[1], it[2]) for it in _KNOWN["other_forms"]]
 _SIGNS_OF_MATE = re.compile(_KNOWN["mates"])
 _WORDS: dict[str, str] = _KNOWN["words"]
 _NUMBERS: dict[str, str] = _KNOWN["numbers"]
@@ -58,7 +56,7 @@ def bad_stipulation(case: Case) -> Iterator[Optional[Explanation]]:
     yield _wrong_number(case, case.plain)
     yield _star(case)
     yield wanted.joined(case)
-    yield _other_form(case)
+    yield case.by_form("stipulation")
     yield _comma(case)
     yield case.mends(
         "sign_first", re.sub(r"^([sh]?)([0-9]+(?:\.5)?)([sh]?[#=])$", r"\1\3\2", case.plain)
@@ -148,15 +146,6 @@ def _star(case: Case) -> Optional[Explanation]:
     if found[1] and found[2]:
         return None
     return case.tells("star", first=found[1], second=found[2])
-
-
-def _other_form(case: Case) -> Optional[Explanation]:
-    """Explains a stipulation that pops lacks, by its form."""
-    for form, which, what in _OTHER_FORMS:
-        found = form.fullmatch(case.plain)
-        if found is not None:
-            return case.tells(which, first=found[1], what=what, forms=_FORMS)
-    return None
 
 
 def _comma(case: Case) -> Optional[Explanation]:

@@ -18,7 +18,6 @@ _SIGN = "[" + re.escape("".join(_SIGNS)) + "]"
 _OF_A_NUMBER = re.compile(f"[0-9]{_SIGN}+[0-9]|[#=]{_SIGN}*[.,:;]{_SIGN}*[0-9]")
 _FROM_TO = re.compile("([a-h])([1-8])([-–—.,…<>→/]+)([a-h])([1-8])", re.IGNORECASE)
 _COMMENT = re.compile(r"(#(?![0-9=])|%|//|/\*|\*|;|--|<!--|\{|!|\")")
-_FEN = re.compile(r"(?:[kqrbnpKQRBNP1-8]{1,8}/){7}[kqrbnpKQRBNP1-8]{1,8}")
 # As in Variationen.
 _LONGEST_ENDING = 3
 # Squares that are the man's, or a pawn's without its letter.
@@ -96,11 +95,6 @@ def comment(case: Case) -> Optional[Explanation]:
     if found[1] == "*" and section == "Stipulation" and is_beside:
         return case.tells("star_apart") if case.plain.strip("*") == "" else None
     return case.tells("comment", first=found[1])
-
-
-def position(case: Case) -> Optional[Explanation]:
-    """Explains a position in FEN."""
-    return case.tells("position") if _FEN.fullmatch(case.plain) else None
 
 
 def without_signs(word: str) -> str:

@@ -16,10 +16,9 @@ OWN_OPTIONS = frozenset(OPTIONS)
 # Words that have to differ from others have this many letters or more.
 _LEAST_LETTERS = 3
 
-# What each word means, by its English name, with the words in English, German and French;
-# `attributes` are words before men that give them other powers, of all languages together,
-# `left_out` the options without which a problem is the same, with why.
+# What each word means, by its English name, with the words in English, German and French.
 _WORDS: dict[str, Any] = stored("import_/words.json")
+# Options without which a problem is the same, with why.
 LEFT_OUT: Mapping[str, str] = _WORDS["left_out"]
 
 
@@ -72,11 +71,6 @@ def meaning_of_three(
     return meaning(word, table, preferred) if len(word) >= _LEAST_LETTERS else None
 
 
-def is_attribute(word: str) -> bool:
-    """Returns whether a word before men gives them other powers."""
-    return word in _ATTRIBUTE_FORMS
-
-
 def table_of(words: Iterable[tuple[str, str]]) -> Table:
     """Returns the table of words with their meanings. A whole word means nothing else."""
     forms: dict[str, frozenset[str]] = {}
@@ -106,7 +100,8 @@ def _language(place: int, name: str) -> Language:
     )
 
 
-_ATTRIBUTE_FORMS = frozenset(_WORDS["attributes"].lower().split())
+# Words before men that give them other powers.
+ATTRIBUTES = frozenset(_WORDS["attributes"].lower().split())
 _NAMES = ("English", "German", "French")
 ENGLISH, GERMAN, FRENCH = LANGUAGES = tuple(
     _language(place, name) for place, name in enumerate(_NAMES)

@@ -59,12 +59,13 @@ def _problems_in(node: Node) -> list[Node]:
 
 
 def _read_key(key: str, value: Node, draft: Draft) -> None:
+    # (source and date are read together, after all keys)
+    if key.lower() in ("source", "date"):
+        return
     readers = {
         "title": _read_names,
         "author": _read_names,
         "authors": _read_names,
-        "source": _read_later,
-        "date": _read_later,
         "algebraic": _read_men,
         "stipulation": _read_stipulation,
         "conditions": _read_conditions,
@@ -93,10 +94,6 @@ def _read_award(key: str, value: Node, draft: Draft) -> None:
         draft.texts.append(TextLine("Award", _one_line(value, " ")))
     else:
         _read_other(key, value, draft)
-
-
-def _read_later(_: str, __: Node, ___: Draft) -> None:
-    """Source and date are read together, after all keys."""
 
 
 def _texts(node: Node) -> list[Scalar]:
