@@ -140,7 +140,8 @@ def write(
     for explained in explain(text, counted(), places):
         faulty += 1
         show(explained)
-        for other in further_faults(text, pieces, explained.problem, explained.title) if every else ():
+        problem, title = explained.problem, explained.title
+        for other in further_faults(text, pieces, problem, title) if every else ():
             further += 1
             show(other)
     if not total:

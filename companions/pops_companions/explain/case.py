@@ -106,7 +106,7 @@ class Case:
         return self.tells(which, mended=mended) if self.fits(mended) else None
 
     def by_form(self, which: str) -> Optional[Explanation]:
-        """Returns what the table of forms says of the faulty word, with the part in brackets as `first`."""
+        """Returns what the table of forms says of the faulty word; `first` is the part in brackets."""
         for form, name, what in _FORMS[which]:
             found = form.fullmatch(self.plain)
             if found is not None:

@@ -48,8 +48,10 @@ class Near:
         return self.stop == len(self._whole)
 
     def grow(self, only_ends: bool = False) -> bool:
-        """Takes in what follows, up to the next word that ends a problem, or begins one. Returns whether
-        anything does."""
+        """Takes in what follows, up to the next word that ends a problem, or begins one.
+
+        Returns whether anything does.
+        """
         if self.is_all:
             return False
         stop = stop_after(self._whole, self.stop, only_ends)
@@ -89,7 +91,7 @@ class Near:
             self._forget()
 
     def closing(self) -> Optional[Span]:
-        """Returns where the word stands that closes the problem; None where the whole text ends first."""
+        """Returns where the word is that closes the problem; None where the text ends first."""
         piece = self._piece()
         while piece is not None and not piece.closed and self.grow(only_ends=True):
             piece = self._piece()

@@ -143,8 +143,7 @@ def rest_after(text: bytes, last: Piece) -> Optional[Rest]:
 
 
 def stop_after(text: bytes, start: int, only_ends: bool) -> int:
-    """Returns where the next word ends that begins or ends a problem, or only ends one; the end of the
-    text without one.
+    """Returns where the next word ends that begins a problem, or ends one; without any the text's end.
 
     The search begins in no word and in no text line.
     """
