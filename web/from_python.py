@@ -49,7 +49,6 @@ PARTS = {
     "pops_companions.sheet.entries": ("Sheet", "boards_of"),
     "pops_companions.sheet.languages": ("LANGUAGES", "marked_as"),
     "pops_companions.sheet.latex_letters": ("beyond_latex",),
-    "pops_companions.sheet.sheet_words": ("WORDS",),
     "pops_companions.sheet.solution": ("Solution",),
     "pops_companions.show.as_json": ("item_object",),
     "pops_companions.show.diagram": ("diagram", "diagram_file"),

@@ -6,7 +6,7 @@ import { py } from './python.js';
 import { language, say } from './words.js';
 
 /** @param {string} condition @returns {string} */
-export const sayCondition = condition => companions.WORDS.get(language).conditions[condition];
+export const sayCondition = condition => companions.LANGUAGES.get(language).conditions[condition];
 
 /**
  * Writes a stipulation with its condition, as a report has it.
@@ -18,7 +18,7 @@ export const sayAsked = asked => asked.replace(/ (Circe|Madrasi)$/, (_, conditio
 export const sayDated = origin => companions.LANGUAGES.get(language).dated(origin);
 
 /** @param {number} number @returns {string} */
-export const sayFaultKind = number => companions.WORDS.get(language).faults.get(companions.FaultKind.of(number));
+export const sayFaultKind = number => companions.LANGUAGES.get(language).faults.get(companions.FaultKind.of(number));
 
 /** @param {ReportFault} fault */
 export const sayFault = ({ line, number, text }) => say('fault', { line, number, text: language === 'en' ? text : sayFaultKind(number) });

@@ -16,7 +16,7 @@ from pops_companions.chess.stipulation import Play
 from pops_companions.explain.fault_texts import FAULT_TEXTS
 from pops_companions.input.given import GivenProblem, given_problems
 from pops_companions.input.pieces import Piece, cut
-from pops_companions.input.reading import CASTLING_SQUARES, OPTIONS, Section, read_piece, squares_of
+from pops_companions.input.reading import CASTLING_SQUARES, OPTIONS, read_piece, squares_of
 from pops_companions.input.words import named
 from tests.plain_battle import Battle, FirstMove, first_moves
 from tests.plain_chess import EMPTY, PROMOTIONS, Move, Position, Rules, square
@@ -48,7 +48,7 @@ class Options:
         found: list[str] = []
         barred: list[str] = []
         for section in given.sections:
-            if section.command is Section.OPTION:
+            if section.command == "Option":
                 for word in section.words[1:]:
                     name = None if squares_of(word) else named(word, OPTIONS)
                     if name is not None:

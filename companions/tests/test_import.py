@@ -315,7 +315,7 @@ class Languages(unittest.TestCase):
     def test_the_words_of_the_document(self) -> None:
         """Its tables name all words that are taken, each with what it means."""
         section = (support.PACKAGE / "import_" / "WORDS.md").read_text("utf-8")
-        cases: list[tuple[str, list[Mapping[str, frozenset[Any]]]]] = [
+        cases: list[tuple[str, list[Mapping[str, frozenset[str]]]]] = [
             ("Command", [one.commands for one in (ENGLISH, GERMAN, FRENCH)]),
             ("Option", [one.options for one in (ENGLISH, GERMAN, FRENCH)]),
             ("Twin", [one.twinnings for one in (ENGLISH, GERMAN, FRENCH)]),
@@ -328,9 +328,7 @@ class Languages(unittest.TestCase):
                     wanted = re.findall("`([^`]+)`", row[0])[0]
                     for word in re.findall("`([^`]+)`", row[place]):
                         with self.subTest(title, word=word):
-                            found: Any = meaning(word.lower(), words)
-                            self.assertIsNotNone(found)
-                            self.assertEqual(found.value, wanted)
+                            self.assertEqual(meaning(word.lower(), words), wanted)
                         known[word.lower()] = wanted
                 whole = [word for word in words if not is_beginning(word, words)]
                 self.assertEqual(sorted(set(whole) - set(known)), [])

@@ -409,7 +409,7 @@ class Further(unittest.TestCase):
         """Line, number and marked words of the faults after the first one."""
         text = text_of(*lines)
         return [
-            f"{it.line}: {it.kind.value}: "
+            f"{it.fault.line}: {it.fault.number}: "
             + " | ".join(text[mark.start : mark.stop].decode() for mark in it.explanation.marks)
             for it in further_faults(text, cut(text), 1)
         ]

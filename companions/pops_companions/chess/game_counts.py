@@ -21,10 +21,7 @@ def surely_begun(letters: str) -> bool:
     """Returns whether the men of a printed board's letters are few enough of each kind and side for a
     game without promotions.
     """
-    for letter, most in _SURELY_BEGUN:
-        if letters.count(letter) > most:
-            return False
-    return True
+    return all(letters.count(letter) <= most for letter, most in _SURELY_BEGUN)
 
 
 class Count(NamedTuple):

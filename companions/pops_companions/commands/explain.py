@@ -140,9 +140,10 @@ def write(
     for explained in explain(text, counted(), places):
         faulty += 1
         show(explained)
-        for other in further_faults(text, pieces, explained.problem) if every else ():
+        problem, title = explained.problem, explained.title
+        for other in further_faults(text, pieces, problem, title) if every else ():
             further += 1
-            show(other.explained(explained.title))
+            show(other)
     if not total:
         raise OtherText("it is empty")
     noticed = "".join(notice.shown(name) for notice in notices(text))

@@ -5,14 +5,13 @@ import os
 import re
 import sys
 from collections.abc import Iterator, Mapping
-from dataclasses import replace
 from typing import Any, NamedTuple, Optional
 
 from pops_companions import command
 from pops_companions.chess.fen import FenError, Position, read_position
 from pops_companions.chess.stipulation import Condition, Stipulation
 from pops_companions.command import Status, flag, option, word
-from pops_companions.input.writing import Wishes, is_turned, problem_of_position, text_of_problems
+from pops_companions.input.writing import Problem, problem_of_position, text_of_problems
 
 NAME = "fen2pop"
 # At most this many positions with reversed colours are named.
@@ -85,25 +84,23 @@ def stipulation(text: str) -> Stipulation:
     return Stipulation.of_text(text.lower())
 
 
-class Problem(NamedTuple):
-    """The lines of a position's problem, and whether its colours were turned round."""
+def problem_of(given: Given, settings: "Settings") -> tuple[list[str], bool]:
+    """Returns the lines of a position's problem, and whether its colours were turned round.
 
-    lines: list[str]
-    is_turned: bool
-
-
-def problem_of(given: Given, wishes: Wishes, named: Optional[Stipulation]) -> Problem:
-    """Returns a position's problem; an EPD may have its title and its mate in itself."""
+    An EPD may have its title and its mate in itself.
+    """
     if given.tags and not given.text:
         raise FenError("the game has no tag FEN")
     position = read_position(given.text)
-    asked = named or mate_of(position)
+    asked = settings.stipulation or mate_of(position)
     if asked is None:
         raise FenError("no stipulation: give --stipulation")
-    title = position.operations.get("id", "") or given.players or wishes.title
-    named_wishes = replace(wishes, title=title, origin=given.event)
-    made = problem_of_position(position, given.text, asked, named_wishes)
-    return Problem(made.lines, is_turned(position, asked, wishes))
+    condition = Condition(settings.condition) if settings.condition else None
+    title = position.operations.get("id", "") or given.players or settings.title
+    options = tuple(settings.options)
+    wanted = Problem({}, asked, condition, options, title, settings.author, given.event)
+    made = problem_of_position(position, given.text, wanted, settings.keep_colours)
+    return made.lines, position.turn is asked.starter.opponent and not settings.keep_colours
 
 
 def tell_turned(places: list[str]) -> None:
@@ -196,13 +193,6 @@ def arguments(words: list[str]) -> Settings:
 
 def main(words: list[str]) -> Status:
     settings = arguments(words)
-    wishes = Wishes(
-        settings.title,
-        settings.author,
-        Condition(settings.condition) if settings.condition else None,
-        settings.options,
-        settings.keep_colours,
-    )
     given = list(of_words(settings.position))
     for file in settings.file:
         given.extend(of_file(file))
@@ -213,9 +203,9 @@ def main(words: list[str]) -> Status:
     turned: list[str] = []
     for one in given:
         try:
-            problem = problem_of(one, wishes, settings.stipulation)
-            problems.append(problem.lines)
-            if problem.is_turned:
+            lines, is_turned = problem_of(one, settings)
+            problems.append(lines)
+            if is_turned:
                 turned.append(one.place)
         except FenError as error:
             print(f"{NAME}: {one.place}: {error}", file=sys.stderr)

@@ -6,8 +6,8 @@ from dataclasses import dataclass, replace
 from typing import Optional
 
 from pops_companions.explain.characters import beginning, decoded
-from pops_companions.explain.sentences import sentence
-from pops_companions.input.reading import COMMANDS, CONDITIONS, OPTIONS, Reading, Section, step
+from pops_companions.explain.sentences import DATA, sentence
+from pops_companions.input.reading import COMMANDS, CONDITIONS, OPTIONS, Reading, step
 from pops_companions.input.words import LONGEST_WORD, TEXT_WORDS, Span, TextLine, Word, named
 
 _LONGEST_QUOTED = 48
@@ -15,6 +15,17 @@ _LONGEST_QUOTED = 48
 _NEAR = 400
 _LAST_WORD = re.compile(rb"([^\t\n\x0b\x0c\r ]+)[\t\n\x0b\x0c\r ]+$")
 NAMES = (*COMMANDS, *TEXT_WORDS, *CONDITIONS, *OPTIONS, "White", "Black")
+
+
+def _form(text: str) -> "re.Pattern[str]":
+    """Returns the pattern of a form; one without capital letters holds of them too."""
+    return re.compile(text, 0 if re.search("[A-Z]", text) else re.IGNORECASE)
+
+
+# Forms of words, each with the sentence that explains it, and what the word is.
+_FORMS = {
+    which: [(_form(it[0]), it[1], it[2]) for it in rows] for which, rows in DATA["forms"].items()
+}
 
 
 @dataclass(frozen=True)
@@ -94,39 +105,40 @@ class Case:
         """Returns a sentence with what the faulty word is to be; None where that doesn't fit."""
         return self.tells(which, mended=mended) if self.fits(mended) else None
 
+    def by_form(self, which: str) -> Optional[Explanation]:
+        """Returns what the table of forms says of the faulty word; `first` is the part in brackets."""
+        for form, name, what in _FORMS[which]:
+            found = form.fullmatch(self.plain)
+            if found is not None:
+                return self.tells(name, first=found[1], what=what, forms=sentence("forms"))
+        return None
+
     def fits(self, text: str) -> bool:
         """Returns whether these words could stand in place of the faulty one."""
-        reading = self._copied()
+        # (nothing that is read later depends on the words of colours and commands)
+        reading = replace(self.reading, colours=[], men=dict(self.reading.men), openers=[])
         words = text.encode("utf-8").split()
-        if not words:
-            return False
-        for place, word in enumerate(words):
+        # (a list of all words would be made again for each name that could stand here)
+        first = next(it for it in self.reading.tokens if isinstance(it, Word))
+        begun = not self.reading.first or self.word is not first
+        for word in words:
             if named(word, TEXT_WORDS):
                 return True
-            if not self._begun and place == 0:
+            if not begun:
                 if named(word, ["BeginProblem"]) is None:
                     return False
             elif step(reading, Word(word, 0, 0)) is not None:
                 return False
-        return True
-
-    @property
-    def _begun(self) -> bool:
-        # (a list of all words would be made again for each name that could stand here)
-        first = next(it for it in self.reading.tokens if isinstance(it, Word))
-        return not self.reading.first or self.word is not first
-
-    def _copied(self) -> Reading:
-        # (nothing that is read later depends on the words of colours and commands)
-        return replace(self.reading, colours=[], men=dict(self.reading.men), openers=[])
+            begun = True
+        return bool(words)
 
     def names_here(self) -> list[str]:
         """Returns the words of pops that could stand in place of the faulty one."""
         return [name for name in NAMES if self.fits(name)]
 
-    def openers_of(self, section: Section) -> list[Word]:
+    def openers_of(self, section: str) -> list[Word]:
         """Returns the commands that open sections of this kind in the problem."""
-        return [it for it in self.reading.openers if named(it.bytes, [section.value])]
+        return [it for it in self.reading.openers if named(it.bytes, [section])]
 
 
 def at(text: str, *marks: Span) -> Explanation:

@@ -37,17 +37,14 @@ def beginning(text: bytes, most: int) -> str:
 
 
 def _shown(character: str) -> str:
-    if character == " " or not (_is_invisible(character) or _is_control(character)):
+    is_control = unicodedata.category(character) in ("Cc", "Co", "Cs", "Cn")
+    if character == " " or not (is_control or _is_invisible(character)):
         return character
     return f"<U+{ord(character):04X}>"
 
 
 def _is_invisible(character: str) -> bool:
     return character > "\x7f" and unicodedata.category(character) in ("Zs", "Zl", "Zp", "Cf")
-
-
-def _is_control(character: str) -> bool:
-    return unicodedata.category(character) in ("Cc", "Co", "Cs", "Cn")
 
 
 def width(text: str) -> int:
@@ -92,13 +89,8 @@ def _plain(character: str) -> str:
     for table in tables:
         if character in table:
             return table[character]
-    if _is_wide(character):
-        return unicodedata.normalize("NFKC", character)
-    return character
-
-
-def _is_wide(character: str) -> bool:
-    return unicodedata.east_asian_width(character) == "F"
+    is_wide = unicodedata.east_asian_width(character) == "F"
+    return unicodedata.normalize("NFKC", character) if is_wide else character
 
 
 def script_of(character: str) -> str:

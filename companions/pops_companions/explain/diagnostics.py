@@ -3,7 +3,6 @@
 from bisect import bisect_right
 from collections.abc import Iterable, Iterator, Mapping, Sequence
 from dataclasses import dataclass
-from itertools import accumulate
 from typing import Any, Optional
 
 from pops_companions.explain.explaining import ExplainedFault, explain
@@ -11,7 +10,7 @@ from pops_companions.explain.mending import edit_for, further_faults
 from pops_companions.explain.near import near_of
 from pops_companions.explain.notices import notices
 from pops_companions.input.pieces import Piece, cut
-from pops_companions.input.words import Span
+from pops_companions.input.words import Span, line_bounds
 from pops_companions.report.items import Fault, Item
 
 
@@ -81,16 +80,15 @@ class _Positions:
 
     def __init__(self, text: bytes):
         self._text = text
-        self._starts = [0, *accumulate(len(line) + 1 for line in text.split(b"\n"))][:-1]
+        self._bounds = line_bounds(text)
 
     def range(self, span: Span) -> Range:
-        line = bisect_right(self._starts, span.start)
-        column = 1 + self._length(self._starts[line - 1], span.start)
+        line = bisect_right(self._bounds, span.start)
+        column = 1 + self._length(self._bounds[line - 1], span.start)
         return Range(line, column, self._length(span.start, span.stop))
 
     def whole_line(self, line: int) -> Range:
-        end = self._starts[line] - 1 if line < len(self._starts) else len(self._text)
-        return self.range(Span(self._starts[line - 1], end))
+        return self.range(Span(self._bounds[line - 1], self._bounds[line] - 1))
 
     def _length(self, start: int, stop: int) -> int:
         return len(self._text[start:stop].decode("utf-8", "surrogateescape"))
@@ -98,7 +96,7 @@ class _Positions:
     def ranges(self, explained: ExplainedFault) -> tuple[Range, ...]:
         """Returns the marks of an explained fault, first the one on the line of the fault."""
         marks = [self.range(mark) for mark in explained.explanation.marks]
-        line = min(explained.fault.line, len(self._starts))
+        line = min(explained.fault.line, len(self._bounds) - 1)
         first = next((it for it in marks if it.line == explained.fault.line), None)
         if first is None:
             # (what is missing is missing at the end of a line)
@@ -130,7 +128,7 @@ def diagnostics(
     for explained in explain(text, items, places):
         yield told(explained, _fix(text, pieces, explained.problem, positions))
         for other in further_faults(text, pieces, explained.problem) if every else ():
-            yield told(other.explained(explained.title), None)
+            yield told(other, None)
     for notice in notices(text):
         yield Diagnostic(
             notice.problem, None, (positions.whole_line(notice.line),), notice.text, None

@@ -7,7 +7,7 @@ from pops_companions.explain import wordings
 from pops_companions.explain.case import Case, Explanation, at, first_cause, quoted
 from pops_companions.explain.characters import shown
 from pops_companions.explain.sentences import sentence
-from pops_companions.input.reading import Awaited, Section
+from pops_companions.input.reading import Awaited
 from pops_companions.input.words import named
 
 
@@ -16,30 +16,21 @@ def stipulation_missing(case: Case) -> Iterator[Optional[Explanation]]:
     """Explains a missing stipulation."""
     if len(case.reading.words) <= (2 if case.reading.first else 1):
         yield case.tells("nothing_between" if case.reading.first else "no_problem_between")
-    openers = case.openers_of(Section.STIPULATION)
-    yield _swallowed(case, "Stipulation")
-    if openers:
-        yield at(
-            sentence("stipulation_empty", opener=quoted(openers[-1])),
-            openers[-1].span,
-            case.word.span,
-        )
-    yield _absent(case, sentence("no_stipulation_write"), "`Stipulation #2`")
+    yield from _lacking(case, "Stipulation", "`Stipulation #2`")
 
 
 @first_cause
 def no_men(case: Case) -> Iterator[Optional[Explanation]]:
     """Explains that there are no men."""
-    yield _swallowed(case, "Pieces")
-    openers = case.openers_of(Section.PIECES)
-    example = sentence("example_men")
-    if openers:
-        yield at(
-            sentence("men_empty", opener=quoted(openers[-1]), example=example),
-            openers[-1].span,
-            case.word.span,
-        )
-    yield _absent(case, sentence("no_men_write"), example)
+    yield from _lacking(case, "Pieces", "`Pieces White Kg6 Ra1 Black Kg8`")
+
+
+def _lacking(case: Case, section: str, example: str) -> Iterator[Optional[Explanation]]:
+    """Yields why the problem has nothing in a section: it is part of a text, empty or not there."""
+    yield _swallowed(case, section)
+    for opener in reversed(case.openers_of(section)):
+        yield case.tells(f"{section}_empty", opener.span, opener=quoted(opener), example=example)
+    yield _absent(case, sentence(f"{section}_absent"), example)
 
 
 def _absent(case: Case, what: str, example: str) -> Explanation:

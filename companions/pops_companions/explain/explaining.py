@@ -8,8 +8,8 @@ from pops_companions.explain import endings, men, misplaced, options, stipulatio
 from pops_companions.explain.case import Case, Explanation, at
 from pops_companions.explain.sentences import sentence
 from pops_companions.input.pieces import cut
-from pops_companions.input.reading import FaultKind, Reading, Section, read_piece
-from pops_companions.input.words import Span, TextLine, TextWord
+from pops_companions.input.reading import FaultKind, Reading, read_piece
+from pops_companions.input.words import Span, TextLine
 from pops_companions.report.items import Fault, FaultyItem, Item
 
 
@@ -52,7 +52,7 @@ def explain(
         piece = pieces[number - 1]
         reading = read_piece(text, piece)
         _compare(text, number, fault, reading)
-        _compare_place(text, number, reading, (places or {}).get(number))
+        _compare_place(number, reading, (places or {}).get(number))
         yield ExplainedFault(number, _title(reading), fault, explanation(text, reading))
 
 
@@ -67,7 +67,7 @@ def explanation(text: bytes, reading: Reading) -> Explanation:
 
 
 def _square_missing(case: Case) -> Explanation:
-    is_of_a_man = case.reading.section is Section.PIECES
+    is_of_a_man = case.reading.section == "Pieces"
     return men.square_missing(case) if is_of_a_man else options.square_missing(case)
 
 
@@ -84,8 +84,8 @@ def _compare(text: bytes, number: int, fault: Fault, reading: Reading) -> None:
     )
 
 
-def _compare_place(text: bytes, number: int, reading: Reading, place: Optional[Span]) -> None:
-    own = Span(len(text), len(text)) if reading.at is None else reading.word.span
+def _compare_place(number: int, reading: Reading, place: Optional[Span]) -> None:
+    own = reading.fault_span
     if place is not None and place != own:
         raise OtherText(
             f"pops finds the fault of problem {number} in bytes {place.start} up to {place.stop}, and"
@@ -94,11 +94,9 @@ def _compare_place(text: bytes, number: int, reading: Reading, place: Optional[S
 
 
 def _title(reading: Reading) -> Optional[bytes]:
-    title = None
-    for token in [*reading.tokens, *reading.later()]:
-        if isinstance(token, TextLine) and token.kind is TextWord.TITLE:
-            title = token.text.strip()
-    return title or None
+    tokens = [*reading.tokens, *reading.later()]
+    lines = [it for it in tokens if isinstance(it, TextLine) and it.name == "Title"]
+    return lines[-1].text.strip() or None if lines else None
 
 
 _WITHOUT_WORD: dict[int, str] = {

@@ -11,16 +11,7 @@ from pops_companions.explain.case import Case, Explanation, at, first_cause, lis
 from pops_companions.explain.characters import decoded, shown
 from pops_companions.explain.other_men import man_by_name, squares_alone, two_letters
 from pops_companions.explain.sentences import sentence
-from pops_companions.input.reading import (
-    COLOURS,
-    COMMANDS,
-    Placed,
-    Section,
-    checkers,
-    is_man,
-    kind_of,
-    king_of,
-)
+from pops_companions.input.reading import COLOURS, COMMANDS, checkers, is_man, kind_of, king_of
 from pops_companions.input.words import TEXT_WORDS, Span, named
 
 _DIGITS_FIRST = re.compile(f"([{LETTERS}])((?:[1-8][a-h])+)", re.IGNORECASE)
@@ -32,22 +23,15 @@ def colour_missing(case: Case) -> Iterator[Optional[Explanation]]:
     opener = case.reading.opener
     assert opener is not None
     yield from wordings.characters_in(case)
-    yield _colour_before_man(case)
+    # (`Bbe8` may have a letter too many)
+    yield case.by_form("colour")
     yield _short_command(case)
-    if len(case.openers_of(Section.PIECES)) > 1:
+    if len(case.openers_of("Pieces")) > 1:
         yield case.tells("colour_of_each", opener.span, opener=quoted(opener))
     after = case.after
     if after is not None and named(after.bytes, COLOURS, 1):
         yield case.tells("colour_first", after.span, colour=decoded(after.bytes))
     yield case.tells("no_colour", opener.span, opener=quoted(opener))
-
-
-def _colour_before_man(case: Case) -> Optional[Explanation]:
-    word = case.word.bytes
-    # (`Bbe8` may have a letter too many)
-    if word[:1] != b"b" or not word[1:2].isupper() or not is_man(word[1:]):
-        return None
-    return case.tells("black_apart", rest=case.plain[1:])
 
 
 def _short_command(case: Case) -> Optional[Explanation]:
@@ -124,7 +108,7 @@ def square_missing(case: Case) -> Iterator[Optional[Explanation]]:
     """Explains a man without a square."""
     yield from wordings.characters_in(case)
     yield squares_alone(case)
-    yield _colour_before_man(case)
+    yield case.by_form("colour")
     yield _letter_alone(case)
     yield _short_command(case)
     reversed_squares = _DIGITS_FIRST.fullmatch(case.plain)
@@ -185,7 +169,7 @@ def king_missing(case: Case) -> Explanation:
             return case.tells(
                 "king_in_text", line.span, head=head, opener=line.name, king=shown(kings[-1])
             )
-    men = [placed for placed in case.reading.men.values() if placed.man.colour is side]
+    men = [it for it in case.reading.men.items() if it[1].man.colour is side]
     last = max(case.reading.men.values(), key=lambda placed: placed.word.start).word
     words = [word for colour, word in case.reading.colours if colour is side]
     if not words:
@@ -195,16 +179,12 @@ def king_missing(case: Case) -> Explanation:
         return case.tells(
             "no_man_of_colour", words[0].span, head=head, after=quoted(words[0]), other=other
         )
-    rooks = [placed for placed in men if placed.man.kind is Kind.ROOK]
-    here = listed([f"{it.man.kind.value}{_square_name(case, it)}" for it in men])
+    rooks = [placed for _, placed in men if placed.man.kind is Kind.ROOK]
+    here = listed([f"{it.man.kind.value}{square.name}" for square, it in men])
     text = sentence("king_after", head=head, name=name, here=here, after=quoted(words[0]))
     if len(rooks) == 1 and stipulation.play is not Play.SELF:
         text = sentence("french_king", text=text)
     return case.says(text, words[0].span)
-
-
-def _square_name(case: Case, placed: Placed) -> str:
-    return next(square.name for square, it in case.reading.men.items() if it is placed)
 
 
 def waiting_side_in_check(case: Case) -> Explanation:

@@ -49,7 +49,7 @@ class _Line:
     @classmethod
     def of(cls, text: bytes, reading: Reading) -> "_Line":
         """Returns the line of a reading's fault, which for a fault at the end has nothing in it."""
-        at = Span(len(text), len(text)) if reading.at is None else reading.word.span
+        at = reading.fault_span
         start, end = text.rfind(b"\n", 0, at.start) + 1, text.find(b"\n", at.stop)
         span = Span(start if reading.at is not None else at.start, len(text) if end < 0 else end)
         return cls(span, text[span.start : span.stop])
@@ -89,13 +89,13 @@ class _Mender:
         if reading is None or reading.number is not None:
             near.grow()
             self._mend(near)
-        end = near.end()
-        if end is None:
+        closing = near.closing()
+        if closing is None:
             self._finish(near.text[near.begin :] + self._text[near.stop :])
             return False
-        self._pass_on(near, end.after)
-        self._done.append(near.text[near.begin : end.stop])
-        self._closing = near.text[end.stop : end.after]
+        self._pass_on(near, closing.stop)
+        self._done.append(near.text[near.begin : closing.start])
+        self._closing = near.text[closing.start : closing.stop]
         self._number += 1
         if not self._goes_on():
             self._finish(self._closing + self._text[self._place :])

@@ -6,7 +6,6 @@ on, past the place of the fault.
 
 import re
 from collections.abc import Callable, Iterator, Sequence
-from dataclasses import dataclass
 from typing import Optional
 
 from pops_companions.explain.case import Case, Explanation
@@ -26,7 +25,6 @@ from pops_companions.input.reading import (
     OPTIONS,
     FaultKind,
     Reading,
-    Section,
     is_man,
     read_on,
     read_piece,
@@ -90,21 +88,6 @@ _AT_THE_END = (
 )
 
 
-@dataclass(frozen=True)
-class FurtherFault:
-    """A fault of a problem that shows once those before it are mended or passed over."""
-
-    problem: int
-    kind: FaultKind
-    line: int
-    explanation: Explanation
-
-    def explained(self, title: Optional[bytes]) -> ExplainedFault:
-        """Returns the fault as pops would report it, of a problem with this title."""
-        fault = Fault(self.line, self.kind.value, FAULT_TEXTS[self.kind])
-        return ExplainedFault(self.problem, title, fault, self.explanation)
-
-
 def read_number(text: bytes, number: int) -> Optional[Reading]:
     """Reads a problem by its number; None where the text has no problem of this number."""
     pieces = cut(text)
@@ -131,23 +114,20 @@ def edit_for(
     said = explanation(text, reading) if known is None else known
     if not in_any_language and _may_be_in_another_language(text, reading, said):
         return None
-    left = 0 if reading.at is None else len(text) - reading.word.span.stop
+    left = len(text) - reading.fault_span.stop
     for edit in _proposed(text, reading, said):
         if _is_unsure(text, reading, edit):
             continue
         changed = edit.of(text)
-        again = _read_again(changed, number, reading, edit)
-        if again is not None and (again.number is None or _left(changed, again) <= left):
+        # (only what may have changed is read again)
+        before = reading.before_fault()
+        stays = before.stays(changed, edit.span.start)
+        again = read_on(changed, before) if stays else read_number(changed, number)
+        if again is None:
+            continue
+        if again.number is None or len(changed) - again.fault_span.start <= left:
             return edit
     return None
-
-
-def _read_again(changed: bytes, number: int, reading: Reading, edit: Edit) -> Optional[Reading]:
-    """Reads a problem after an edit: only what may have changed of it."""
-    before = reading.before_fault()
-    if before.stays(changed, edit.span.start):
-        return read_on(changed, before)
-    return read_number(changed, number)
 
 
 def _may_be_in_another_language(text: bytes, reading: Reading, said: Explanation) -> bool:
@@ -172,10 +152,10 @@ def _is_unsure(text: bytes, reading: Reading, edit: Edit) -> bool:
         return False
     before = text[max(start - _OF_LINE, 0) : start].rpartition(b"\n")[2]
     after = text[stop : stop + _OF_LINE].partition(b"\n")[0]
-    if reading.section is Section.STIPULATION and _SIDE.search(before + b" " + after):
+    if reading.section == "Stipulation" and _SIDE.search(before + b" " + after):
         return True
     own_bytes = text[start:stop]
-    is_command = reading.section is not Section.PIECES
+    is_command = reading.section != "Pieces"
     # (in Popeye's boards `-R` is black and `=R` neutral)
     if not is_command and _SIGN_OF_MAN.search(own_bytes):
         return True
@@ -186,7 +166,7 @@ def _is_unsure(text: bytes, reading: Reading, edit: Edit) -> bool:
         return True
     is_short = len(own_bytes) == 2 and named(edit.text, TEXT_WORDS) is not None
     if edit.text == b"Remark " or is_short:
-        is_beside = bool(before.strip()) and reading.section is Section.CONDITION
+        is_beside = bool(before.strip()) and reading.section == "Condition"
         has_number = re.search(rb"[0-9]", reading.word.bytes) is not None
         if is_beside or has_number or _says_more(Case(text, reading), after):
             return True
@@ -202,7 +182,7 @@ def _takes_men_over(reading: Reading, edit: Edit) -> bool:
     the colour before, as in `White Kg6 bQa8 Ra1 Black Kg8`.
     """
     colour = named(edit.text.split(b" ")[0], COLOURS)
-    if colour is None or reading.section is not Section.PIECES or b" " not in edit.text:
+    if colour is None or reading.section != "Pieces" or b" " not in edit.text:
         return False
     words = (*reading.words, *reading.words_after())
     after = next((it for it in words if it.start >= edit.span.stop), None)
@@ -240,11 +220,6 @@ def _leaving_out(text: bytes, reading: Reading) -> Optional[Edit]:
     if reading.first and len(words) == 1 and named(reading.word.bytes, ["NextProblem"]) is not None:
         return Edit(Span(words[0].span.stop, reading.word.span.stop), b"")
     return None
-
-
-def _left(text: bytes, reading: Reading) -> int:
-    """Returns how many bytes a text has from the fault of a problem on."""
-    return 0 if reading.at is None else len(text) - reading.word.start
 
 
 def _proposed(text: bytes, reading: Reading, said: Explanation) -> Iterator[Edit]:
@@ -356,9 +331,11 @@ def _in_place(text: bytes, marks: tuple[Span, ...], said: str) -> Iterator[Edit]
             yield Edit(mark, wanted.encode("utf-8"))
 
 
-def further_faults(text: bytes, pieces: Sequence[Piece], number: int) -> Iterator[FurtherFault]:
-    """Yields the faults of a problem after its first one, each with the others mended or passed
-    over.
+def further_faults(
+    text: bytes, pieces: Sequence[Piece], number: int, title: Optional[bytes] = None
+) -> Iterator[ExplainedFault]:
+    """Yields the faults of a problem with this title after its first one, as pops would report them
+    once those before are mended or passed over.
 
     A word that can't be mended is passed over; what is missing at the end of the problem may be
     missing for that alone, and isn't reported then, nor is each word before `BeginProblem`.
@@ -377,9 +354,10 @@ def further_faults(text: bytes, pieces: Sequence[Piece], number: int) -> Iterato
         said = explanation(near.text, reading)
         if fault > 0 and not (is_passed_over and reading.number is FaultKind.BEGIN_PROBLEM_MISSING):
             marks = tuple(map(back.span, said.marks))
-            at = len(near.text) if reading.at is None else reading.word.start
-            line = _line_of(text, pieces[number - 1], back.span(Span(at, at)).start)
-            yield FurtherFault(number, reading.number, line, Explanation(said.text, marks))
+            at, piece = reading.fault_span.start, pieces[number - 1]
+            line = piece.line + text.count(b"\n", piece.start, back.span(Span(at, at)).start)
+            found = Fault(line, reading.number.value, FAULT_TEXTS[reading.number])
+            yield ExplainedFault(number, title, found, Explanation(said.text, marks))
         edit = edit_for(near.text, near.number, reading, in_any_language=True, known=said)
         if edit is None:
             if reading.at is None or reading.number in _AT_THE_END:
@@ -400,11 +378,6 @@ def _ends_problem(near: Near, place: Span) -> bool:
     """Returns whether a word that ends a problem stands there."""
     words = near.text[place.start : place.stop].split()
     return any(named(word, CLOSING) is not None for word in words)
-
-
-def _line_of(text: bytes, piece: Piece, place: int) -> int:
-    """Returns the line of a place in a problem."""
-    return piece.line + text.count(b"\n", piece.start, place)
 
 
 def _passing_over(text: bytes, reading: Reading) -> list[Edit]:

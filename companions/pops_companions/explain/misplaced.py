@@ -22,7 +22,6 @@ from pops_companions.input.reading import (
     CONDITIONS,
     OPTIONS,
     SECTIONS,
-    Section,
     is_man,
     is_number,
     squares_of,
@@ -55,7 +54,7 @@ def begin_problem_missing(case: Case) -> Iterator[Optional[Explanation]]:
             yield case.tells("other_file", what=what)
     if case.text.startswith(b"problem 1\n"):
         yield case.tells("report")
-    yield wordings.position(case)
+    yield case.by_form("position")
     if _belongs_inside(case):
         yield case.tells("begin_missing")
     yield wordings.comment(case)
@@ -84,17 +83,17 @@ def word_misplaced(case: Case) -> Iterator[Optional[Explanation]]:
     yield wanted.numbers(case)
     yield wanted.men(case)
     yield _wrong_section(case)
-    yield wordings.position(case)
-    if section is Section.PIECES:
+    yield case.by_form("position")
+    if section == "Pieces":
         yield from _causes_among_men(case)
     yield wordings.parted(case)
     yield wordings.in_another_language(case)
     yield wordings.of_popeye(case)
     yield wordings.signs(case)
     yield wordings.comment(case)
-    if section is Section.OPTION and is_number(case.word.bytes):
+    if section == "Option" and is_number(case.word.bytes):
         yield case.tells("number_alone")
-    if section is Section.OPTION and squares_of(case.word.bytes):
+    if section == "Option" and squares_of(case.word.bytes):
         yield case.tells("square_alone")
     yield from wordings.spelling(case)
     yield wordings.rest_of_a_text(case)
@@ -105,15 +104,14 @@ def _wrong_section(case: Case) -> Optional[Explanation]:
     """Explains a word of pops that belongs to another section than the one at hand."""
     section, word = case.reading.section, case.word.bytes
     home = _home_of(word)
-    if home is not None and home[0] is Section.PIECES and not _is_before_a_man(case):
+    if home is not None and home[0] == "Pieces" and not _is_before_a_man(case):
         return _white_to_play(case)
-    if home is not None and home[0] is not section:
-        return case.tells("belongs", what=sentence(home[1]), section=home[0].value)
-    if section is not Section.PIECES and is_man(word):
+    if home is not None and home[0] != section:
+        return case.tells("belongs", what=sentence(home[1]), section=home[0])
+    if section != "Pieces" and is_man(word):
         return case.tells("man_outside")
     if looks_like_stipulation(case.plain):
-        section_name = Section.STIPULATION.value
-        return case.tells("belongs", what=sentence("a_stipulation"), section=section_name)
+        return case.tells("belongs", what=sentence("a_stipulation"), section="Stipulation")
     return _wrong_section_with_signs(case)
 
 
@@ -121,11 +119,11 @@ def _wrong_section_with_signs(case: Case) -> Optional[Explanation]:
     """Explains a word of another section with signs around it, as `White:` before `Pieces`."""
     bare = wordings.without_signs(case.plain)
     home = _home_of(bare.encode("utf-8"))
-    if bare == case.plain or home is None or home[0] is case.reading.section:
+    if bare == case.plain or home is None or home[0] == case.reading.section:
         return None
-    if home[0] is Section.PIECES and not _is_before_a_man(case):
+    if home[0] == "Pieces" and not _is_before_a_man(case):
         return None
-    whole = f"{home[0].value} {bare}"
+    whole = f"{home[0]} {bare}"
     return case.tells("belongs_with_signs", what=sentence(home[1]), whole=whole)
 
 
@@ -137,26 +135,24 @@ def _is_before_a_man(case: Case) -> bool:
 def _white_to_play(case: Case) -> Optional[Explanation]:
     """Explains Popeye's short form of WhiteToPlay."""
     found = unread("WhiteToPlay")
-    if case.reading.section is not Section.OPTION or not named(case.word.bytes, ["White"]):
+    if case.reading.section != "Option" or not named(case.word.bytes, ["White"]):
         return None
     assert found is not None
     return case.tells("unread_short", what=found.what, name=found.name, instead=found.instead)
 
 
-def _home_of(word: bytes) -> Optional[tuple[Section, str]]:
+def _home_of(word: bytes) -> Optional[tuple[str, str]]:
     """Returns the section of an option, a condition or a colour, and the sentence of what it is."""
     if named(word, OPTIONS):
-        return Section.OPTION, "an_option"
+        return "Option", "an_option"
     if named(word, CONDITIONS):
-        return Section.CONDITION, "a_condition"
-    return (Section.PIECES, "a_colour") if named(word, COLOURS, 3) else None
+        return "Condition", "a_condition"
+    return ("Pieces", "a_colour") if named(word, COLOURS, 3) else None
 
 
 def _causes_among_men(case: Case) -> Iterator[Optional[Explanation]]:
     yield squares_alone(case)
-    word = case.word.bytes
-    if word[:1] == b"w" and word[1:2].isupper() and is_man(word[1:]):
-        yield case.tells("white_apart", rest=case.plain[1:])
+    yield case.by_form("colour")
     yield case.mends("letter_for_digit", re.sub("([a-hA-H])[lI|]", r"\g<1>1", case.plain))
     yield man_by_name(case)
     yield foreign_letter(case)
@@ -167,13 +163,13 @@ def _unknown(case: Case) -> Explanation:
     section = case.reading.section
     if section is None:
         return case.tells("before_sections", sections=listed(SECTIONS))
-    if section is Section.PIECES:
+    if section == "Pieces":
         return case.tells("unknown_among_men")
-    if section is Section.STIPULATION:
+    if section == "Stipulation":
         given = case.reading.stipulation_word
         assert given is not None
         return case.tells("unknown_after_stipulation", given=quoted(given))
-    if section is Section.CONDITION:
+    if section == "Condition":
         return case.tells("unknown_condition", names=listed(CONDITIONS))
     return case.tells("unknown_option", names=listed(OPTIONS))
 

@@ -4,7 +4,7 @@ import re
 from collections.abc import Sequence
 from typing import NamedTuple, Optional
 
-from pops_companions.input.pieces import Piece, Stops, cut, stop_after
+from pops_companions.input.pieces import Piece, cut, stop_after
 from pops_companions.input.reading import Reading, read_on
 from pops_companions.input.words import Span
 
@@ -21,13 +21,6 @@ class Edit(NamedTuple):
 
     def of(self, text: bytes) -> bytes:
         return text[: self.span.start] + self.text + text[self.span.stop :]
-
-
-class End(NamedTuple):
-    """Where a problem ends in its text of its own: before the word that closes it, and after it."""
-
-    stop: int
-    after: int
 
 
 class Near:
@@ -54,11 +47,14 @@ class Near:
         """Whether it ends with the whole text."""
         return self.stop == len(self._whole)
 
-    def grow(self, stops: Stops = Stops.BEGIN_OR_END) -> bool:
-        """Takes in what follows, up to the next one of these words. Returns whether anything does."""
+    def grow(self, only_ends: bool = False) -> bool:
+        """Takes in what follows, up to the next word that ends a problem, or begins one.
+
+        Returns whether anything does.
+        """
         if self.is_all:
             return False
-        stop = stop_after(self._whole, self.stop, stops)
+        stop = stop_after(self._whole, self.stop, only_ends)
         self.text += self._whole[self.stop : stop]
         self.stop = stop
         return True
@@ -94,16 +90,16 @@ class Near:
         if self._known is not None and not self._known.before_fault().stays(self.text, edit.span.start):
             self._forget()
 
-    def end(self) -> Optional[End]:
-        """Returns where the problem ends; None where the whole text does."""
+    def closing(self) -> Optional[Span]:
+        """Returns where the word is that closes the problem; None where the text ends first."""
         piece = self._piece()
-        while piece is not None and not piece.closed and self.grow(Stops.END):
+        while piece is not None and not piece.closed and self.grow(only_ends=True):
             piece = self._piece()
         if piece is None or not piece.closed:
             return None
         word = _WORD.match(self.text, piece.stop)
         assert word is not None
-        return End(piece.stop, word.end())
+        return Span(piece.stop, word.end())
 
     def _piece(self) -> Optional[Piece]:
         pieces = cut(self.text)

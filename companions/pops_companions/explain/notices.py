@@ -9,13 +9,12 @@ from pops_companions.chess.men import Kind
 from pops_companions.explain.characters import decoded
 from pops_companions.explain.vocabulary import foreign, unread
 from pops_companions.input.pieces import Piece, cut, rest_of
-from pops_companions.input.reading import Reading, read_piece
-from pops_companions.input.words import TextLine, TextWord
+from pops_companions.input.reading import read_piece
+from pops_companions.input.words import TextLine
 from pops_companions.show.titles import is_text
 
 _NIGHTRIDERS = "`N` is a nightrider, and there is no knight: knights are `S`"
 _OF_POPEYE = "is a word of Popeye: `pops-import FILE` makes an input of pops of Popeye's inputs"
-_NAMES = (TextWord.TITLE, TextWord.AUTHOR)
 
 
 class Notice(NamedTuple):
@@ -43,13 +42,14 @@ def notices(text: bytes) -> Iterator[Notice]:
 
 def _of_problem(text: bytes, piece: Piece) -> Iterator[Notice]:
     for token in piece.tokens(text):
-        if isinstance(token, TextLine) and token.kind in _NAMES:
+        if isinstance(token, TextLine) and token.name in ("Title", "Author"):
             if not is_text(token.text, "utf-8"):
                 said = f"`{token.name}` isn't UTF-8: the companions read it as Latin-1"
                 yield Notice(token.word.line, piece.number, said)
-    line = _line_of_nightrider(read_piece(text, piece))
-    if line is not None:
-        yield Notice(line, piece.number, _NIGHTRIDERS)
+    placed = list(read_piece(text, piece).men.values())
+    riders = [it.word.line for it in placed if it.man.kind is Kind.NIGHTRIDER]
+    if riders and not any(it.man.kind is Kind.KNIGHT for it in placed):
+        yield Notice(min(riders), piece.number, _NIGHTRIDERS)
 
 
 def _of_popeye(text: bytes) -> Iterator[Notice]:
@@ -62,12 +62,3 @@ def _of_popeye(text: bytes) -> Iterator[Notice]:
         if unread(word) is not None or foreign(word) is not None:
             yield Notice(reading.word.line, piece.number, f"`{word}` {_OF_POPEYE}")
             return
-
-
-def _line_of_nightrider(reading: Reading) -> Optional[int]:
-    """Returns the line of the first nightrider of a problem without knights."""
-    placed = list(reading.men.values())
-    if any(it.man.kind is Kind.KNIGHT for it in placed):
-        return None
-    lines = [it.word.line for it in placed if it.man.kind is Kind.NIGHTRIDER]
-    return min(lines, default=None)

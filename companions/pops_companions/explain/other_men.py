@@ -8,14 +8,7 @@ from pops_companions.explain.case import Case, Explanation, listed
 from pops_companions.explain.characters import decoded
 from pops_companions.explain.sentences import DATA, sentence
 from pops_companions.explain.vocabulary import Alphabet, alphabets_of, alphabets_with
-from pops_companions.input.reading import (
-    SECTIONS,
-    Section,
-    is_man,
-    kind_of,
-    king_of,
-    squares_of,
-)
+from pops_companions.input.reading import SECTIONS, is_man, kind_of, king_of, squares_of
 from pops_companions.input.words import Word, forms_of
 
 _NAMES = {kind.word: kind for kind in Kind}
@@ -94,18 +87,13 @@ def two_letters(case: Case) -> Optional[Explanation]:
     if not re.fullmatch(r"[a-z]{2}(?:[a-h][1-8])+", word, re.IGNORECASE):
         return None
     # (`KT` is a fairy man of Popeye, and `Kng6` may be the king)
-    if word[:2] in ("Kt", "Kn", "kt", "kn") and _has_king(case):
+    colour = case.reading.colour
+    if word[:2] in ("Kt", "Kn", "kt", "kn") and colour and king_of(case.reading, colour):
         return case.tells("knight_is_s", squares=word[2:])
     kinds = [kind.word for kind in Kind]
     return case.tells(
         "two_letters", kinds=", ".join(kinds[:-1]), last=kinds[-1], letters=" ".join(LETTERS)
     )
-
-
-def _has_king(case: Case) -> bool:
-    """Returns whether the side at hand has its king."""
-    colour = case.reading.colour
-    return colour is not None and king_of(case.reading, colour) is not None
 
 
 def _kind(alphabet: Alphabet, letter: str) -> Kind:
@@ -123,7 +111,7 @@ def men_words(case: Case) -> list[Word]:
     for word in [*case.reading.words, *case.reading.words_after()]:
         name = _SECTION_FORMS.get(word.bytes.lower())
         if name is not None:
-            inside = name == Section.PIECES.value
+            inside = name == "Pieces"
         elif inside and word.bytes[:1].isalpha() and squares_of(word.bytes[1:]):
             words.append(word)
     return words

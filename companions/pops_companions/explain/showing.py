@@ -2,11 +2,10 @@
 
 import textwrap
 from bisect import bisect_right
-from itertools import accumulate
 
 from pops_companions.explain.characters import beginning, shown, width
 from pops_companions.explain.explaining import ExplainedFault
-from pops_companions.input.words import Span
+from pops_companions.input.words import Span, line_bounds
 
 _WIDEST = 96
 # Bytes between two marks that aren't shown together.
@@ -24,8 +23,7 @@ class Shower:
     def __init__(self, name: str, text: bytes):
         self._name = name
         self._text = text
-        lengths = (len(line) + 1 for line in text.split(b"\n"))
-        self._ends = list(accumulate(lengths))
+        self._bounds = line_bounds(text)
 
     def text_of(self, explained: ExplainedFault) -> str:
         """Returns an explained fault as some lines of text."""
@@ -52,16 +50,16 @@ class Shower:
         """
         by_line: dict[int, list[Span]] = {}
         for mark in marks:
-            by_line.setdefault(bisect_right(self._ends, mark.start), []).append(mark)
-        digits = max((len(str(line + 1)) for line in by_line), default=0)
+            by_line.setdefault(bisect_right(self._bounds, mark.start), []).append(mark)
+        digits = max((len(str(line)) for line in by_line), default=0)
         lines = []
         for line, its_marks in by_line.items():
-            start = self._ends[line - 1] if line else 0
+            start = self._bounds[line - 1]
             text, signs = marked(
-                self._text[start : self._ends[line] - 1],
+                self._text[start : self._bounds[line] - 1],
                 [(mark.start - start, mark.stop - start) for mark in its_marks],
             )
-            lines.append(f"{line + 1:{digits + 4}} | {text}")
+            lines.append(f"{line:{digits + 4}} | {text}")
             lines.append(f"{'':{digits + 4}} | {signs}")
         return lines
 

@@ -9,23 +9,14 @@ from pops_companions.explain import wanted, wordings
 from pops_companions.explain.case import Case, Explanation, first_cause, quoted
 from pops_companions.explain.characters import decoded
 from pops_companions.explain.sentences import DATA, sentence
-from pops_companions.input.reading import (
-    COLOURS,
-    CONDITIONS,
-    OPTIONS,
-    Section,
-    is_man,
-    is_number,
-)
+from pops_companions.input.reading import COLOURS, CONDITIONS, OPTIONS, is_man, is_number
 from pops_companions.input.words import Word, named
 
 _FORMS = sentence("forms")
 _STIPULATION = re.compile(r"(?:[a-zA-Z]{0,5}-)?[a-zA-Z]{0,2}(?:#|==?)[0-9]+(?:\.5)?")
 _GOOD = re.compile(r"([shSH]?)([#=])([0-9]+)(\.5)?")
 _KNOWN: dict[str, Any] = DATA["stipulations"]
-_OTHER_PLAY = tuple((re.compile(plays, re.IGNORECASE), what) for plays, what in _KNOWN["plays"])
-_OTHER_GOALS = re.compile(_KNOWN["goals"], re.IGNORECASE)
-_SIGNS_OF_MATE: str = _KNOWN["mates"]
+_SIGNS_OF_MATE = re.compile(_KNOWN["mates"])
 _WORDS: dict[str, str] = _KNOWN["words"]
 _NUMBERS: dict[str, str] = _KNOWN["numbers"]
 # What help play and selfmate are called before a number.
@@ -56,7 +47,7 @@ def bad_stipulation(case: Case) -> Iterator[Optional[Explanation]]:
     yield wordings.utf_16(case)
     yield wordings.invisible(case)
     yield _half(case)
-    yield _sign_of_mate(case)
+    yield case.mends("sign_of_mate", _SIGNS_OF_MATE.sub("#", case.plain))
     yield wordings.look_alike(case)
     yield _white_mates(case)
     yield _section_empty(case)
@@ -65,12 +56,11 @@ def bad_stipulation(case: Case) -> Iterator[Optional[Explanation]]:
     yield _wrong_number(case, case.plain)
     yield _star(case)
     yield wanted.joined(case)
-    yield _other_play(case)
-    yield _exact(case)
-    yield _other_goal(case)
+    yield case.by_form("stipulation")
     yield _comma(case)
-    yield _reversed(case)
-    yield _may_be_half(case)
+    yield case.mends(
+        "sign_first", re.sub(r"^([sh]?)([0-9]+(?:\.5)?)([sh]?[#=])$", r"\1\3\2", case.plain)
+    )
     yield wordings.signs(case)
     yield _number_in_words(case)
     yield _in_words(case)
@@ -93,10 +83,6 @@ def _half(case: Case) -> Optional[Explanation]:
     mended = re.sub(r"½|[- ]?1/2$", ".5", word)
     is_help = word.lower().startswith("h")
     return case.mends("half", mended) or (None if is_help else case.tells("half_only_help"))
-
-
-def _sign_of_mate(case: Case) -> Optional[Explanation]:
-    return case.mends("sign_of_mate", re.sub(f"[{_SIGNS_OF_MATE}]|\\+\\+", "#", case.plain))
 
 
 def _section_empty(case: Case) -> Optional[Explanation]:
@@ -162,44 +148,11 @@ def _star(case: Case) -> Optional[Explanation]:
     return case.tells("star", first=found[1], second=found[2])
 
 
-def _other_play(case: Case) -> Optional[Explanation]:
-    for pattern, what in _OTHER_PLAY:
-        if pattern.match(case.plain):
-            return case.tells("other_play", what=what, forms=_FORMS)
-    return None
-
-
-def _exact(case: Case) -> Optional[Explanation]:
-    found = re.fullmatch(r"exact-(.+)", case.plain, re.IGNORECASE)
-    if found is None:
-        return None
-    which = "exact_help" if found[1].lower().startswith("h") else "exact"
-    return case.tells(which, first=found[1])
-
-
-def _other_goal(case: Case) -> Optional[Explanation]:
-    found = _OTHER_GOALS.fullmatch(case.plain)
-    if found is None or (found[1].lower() == "k" and is_man(case.word.bytes)):
-        return None
-    return case.tells("other_goal", first=found[1], forms=_FORMS)
-
-
 def _comma(case: Case) -> Optional[Explanation]:
     mended = re.sub(r",5$", ".5", case.plain)
     if mended == case.plain:
         return None
     return case.mends("half_point", mended) or _wrong_number(case, mended)
-
-
-def _may_be_half(case: Case) -> Optional[Explanation]:
-    """Explains a point after the number of help play, as `h#2.`."""
-    found = re.fullmatch(r"(h[#=][0-9]+)\.[^0-9]*", case.plain, re.IGNORECASE)
-    return None if found is None else case.tells("may_be_half", whole=found[1])
-
-
-def _reversed(case: Case) -> Optional[Explanation]:
-    mended = re.sub(r"^([sh]?)([0-9]+(?:\.5)?)([sh]?[#=])$", r"\1\3\2", case.plain)
-    return case.mends("sign_first", mended)
 
 
 def _number_in_words(case: Case) -> Optional[Explanation]:
@@ -254,9 +207,9 @@ def _said_in_words(case: Case, words: Sequence[Word], begin: int = 0) -> Optiona
 
 def _has_two_pieces(case: Case) -> bool:
     """Returns whether two Pieces show that there may be two problems."""
-    count = len(case.openers_of(Section.PIECES))
+    count = len(case.openers_of("Pieces"))
     for word in case.reading.words_after() if count < 2 else ():
-        count += 1 if named(word.bytes, [Section.PIECES.value]) else 0
+        count += 1 if named(word.bytes, ["Pieces"]) else 0
     return count > 1
 
 

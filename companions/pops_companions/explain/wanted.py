@@ -8,7 +8,6 @@ from pops_companions.chess.stipulation import Play, Stipulation
 from pops_companions.explain.case import Case, Explanation
 from pops_companions.explain.characters import decoded
 from pops_companions.explain.sentences import DATA
-from pops_companions.input.reading import Section
 
 # As 2.1.1.1, 2.1.., 3.1;1.1 and 0.2.1.1; not 2 alone.
 _COUNTS = re.compile(r"\(?[0-9]{1,3}(?:[.,;]+[0-9]{1,3})*[.,;]*\)?[.,;]*")
@@ -24,7 +23,7 @@ _OF_SOLUTIONS = re.compile(
 def numbers(case: Case) -> Optional[Explanation]:
     """Explains a number of solutions after a stipulation."""
     reading = case.reading
-    if reading.section is not Section.STIPULATION or reading.stipulation is None:
+    if reading.section != "Stipulation" or reading.stipulation is None:
         return None
     said = _in_words(case)
     if said is not None:
@@ -36,7 +35,7 @@ def numbers(case: Case) -> Optional[Explanation]:
 
 def men(case: Case) -> Optional[Explanation]:
     """Explains the numbers of men after a stipulation."""
-    is_after = case.reading.section is Section.STIPULATION and case.reading.stipulation is not None
+    is_after = case.reading.section == "Stipulation" and case.reading.stipulation is not None
     if not is_after or not _OF_MEN.fullmatch(case.plain):
         return None
     return case.tells("count_of_men")
@@ -79,7 +78,7 @@ def joined(case: Case) -> Optional[Explanation]:
     # (`#2/3` and `#3,2` may be two mates, `h#2;5` one of a half-move more)
     if _OR_ANOTHER.search(case.plain):
         return None
-    count = _product(found[2])
+    count = math.prod(_numbers(found[2]))
     if not count:
         return case.tells("count_unclear")
     return case.tells("counted", second=found[2], first=found[1], count=count)
@@ -88,7 +87,3 @@ def joined(case: Case) -> Optional[Explanation]:
 def _numbers(text: str) -> list[int]:
     """Returns the numbers of a text as 2.1.1.1."""
     return [int(it) for it in re.findall("[0-9]+", text)]
-
-
-def _product(text: str) -> int:
-    return math.prod(_numbers(text))

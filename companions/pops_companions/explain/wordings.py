@@ -9,7 +9,7 @@ from pops_companions.explain import characters
 from pops_companions.explain.case import NAMES, Case, Explanation
 from pops_companions.explain.sentences import DATA, sentence
 from pops_companions.explain.vocabulary import foreign, unread
-from pops_companions.input.reading import CONDITIONS, Section, is_man, stipulation_of
+from pops_companions.input.reading import CONDITIONS, is_man, stipulation_of
 from pops_companions.input.words import TEXT_WORDS, named
 
 _SIGNS: dict[str, str] = DATA["signs"]
@@ -18,7 +18,6 @@ _SIGN = "[" + re.escape("".join(_SIGNS)) + "]"
 _OF_A_NUMBER = re.compile(f"[0-9]{_SIGN}+[0-9]|[#=]{_SIGN}*[.,:;]{_SIGN}*[0-9]")
 _FROM_TO = re.compile("([a-h])([1-8])([-–—.,…<>→/]+)([a-h])([1-8])", re.IGNORECASE)
 _COMMENT = re.compile(r"(#(?![0-9=])|%|//|/\*|\*|;|--|<!--|\{|!|\")")
-_FEN = re.compile(r"(?:[kqrbnpKQRBNP1-8]{1,8}/){7}[kqrbnpKQRBNP1-8]{1,8}")
 # As in Variationen.
 _LONGEST_ENDING = 3
 # Squares that are the man's, or a pawn's without its letter.
@@ -90,22 +89,12 @@ def comment(case: Case) -> Optional[Explanation]:
     # (a second goal alone, as in `=2 #`, is no comment)
     if case.plain == "#" and len(case.rest_of_line(2)) < 2:
         return None
-    if found[1] == "*" and _is_beside_stipulation(case):
+    # (in a stipulation's line a star means set play)
+    opener, section = case.reading.opener, case.reading.section
+    is_beside = opener is not None and opener.line == case.word.line
+    if found[1] == "*" and section == "Stipulation" and is_beside:
         return case.tells("star_apart") if case.plain.strip("*") == "" else None
     return case.tells("comment", first=found[1])
-
-
-def _is_beside_stipulation(case: Case) -> bool:
-    """Returns whether a word is in a stipulation's line, where a star means set play."""
-    opener = case.reading.opener
-    if opener is None or case.reading.section is not Section.STIPULATION:
-        return False
-    return opener.line == case.word.line
-
-
-def position(case: Case) -> Optional[Explanation]:
-    """Explains a position in FEN."""
-    return case.tells("position") if _FEN.fullmatch(case.plain) else None
 
 
 def without_signs(word: str) -> str:
@@ -120,7 +109,7 @@ def signs(case: Case) -> Optional[Explanation]:
     if not inside or re.match("[sh]?(?:#.*=|=.*#)|-[0-9]", case.plain, re.IGNORECASE):
         return None
     # (a star means set play, a plus may be another goal)
-    if case.reading.section is Section.STIPULATION and any(sign in "*+" for sign in inside):
+    if case.reading.section == "Stipulation" and any(sign in "*+" for sign in inside):
         return None
     if _is_range(case.plain.lower()):
         return None

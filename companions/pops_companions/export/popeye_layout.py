@@ -36,10 +36,6 @@ class Shown(Flag):
     TRIES = auto()
 
 
-def _place(square: Square) -> int:
-    return 8 * square.rank + square.file
-
-
 def _step(move: PlayedMove) -> tuple[int, int]:
     """Returns the direction of a move: the step of a knight, and a unit for other men."""
     files, ranks = move.arrival.file - move.origin.file, move.arrival.rank - move.origin.rank
@@ -50,7 +46,7 @@ def _step(move: PlayedMove) -> tuple[int, int]:
 
 def _order(move: PlayedMove) -> tuple[int, int, int, int]:
     """Returns a key by which Popeye's order sorts moves of a side."""
-    place = _place(move.origin)
+    place = 8 * move.origin.rank + move.origin.file
     directions = _DIRECTIONS.get((move.kind, move.side), _BISHOP + _ROOK)
     step = _step(move)
     direction = directions.index(step) if step in directions else len(directions)
@@ -104,19 +100,14 @@ def _same(move: PlayedMove) -> tuple[Square, Square, Optional[Kind]]:
 
 def solution_lines(item: TriesItem, shown: Shown) -> Iterator[str]:
     """Yields the lines of a problem of battle play."""
-    if item.set_play is not None:
-        yield from _set_play(item.set_play)
+    if item.set_play is not None and item.set_play.nodes:
+        yield from _tree(item.set_play.nodes, 1)
+        yield ""
     firsts = [(one, "!") for one in item.keys]
     if Shown.TRIES in shown:
         firsts += [(one, "?") for one in item.tries]
     for first, sign in sorted(firsts, key=lambda it: _order(it[0].move)):
         yield from _first_move(first, sign, shown)
-        yield ""
-
-
-def _set_play(phase: Phase) -> Iterator[str]:
-    if phase.nodes:
-        yield from _tree(phase.nodes, 1)
         yield ""
 
 
@@ -148,7 +139,6 @@ def _help_line(line: HelpLine) -> str:
         between = "   " if move.half % 2 and words else " " if words else ""
         words.append(f"{between}{lead}{shown_move(move)}")
     return "".join(words)
-
 
 
 _EDGE = "+---a---b---c---d---e---f---g---h---+"

@@ -5,8 +5,6 @@ from collections.abc import Iterable, Iterator, Mapping, Sequence
 from dataclasses import dataclass, field, replace
 from typing import NamedTuple, Optional
 
-from pops_companions.import_.draft import Draft
-from pops_companions.import_.language import Command
 from pops_companions.import_.options import option_left_out
 from pops_companions.import_.posing import COLOURS_TURNED, ZERO_POSITION, posed
 from pops_companions.import_.sources import read_drafts
@@ -172,15 +170,12 @@ def read_problems(text: str) -> Reading:
             if one.faults:
                 name = f"{draft.number} {one.label}".rstrip()
                 reasons = [fault.text for fault in one.faults]
-                title = " ".join(filter(None, (_title_of(draft), one.label)))
+                titles = "; ".join(text for word, text in draft.texts if word == "Title" and text)
+                title = " ".join(filter(None, (titles, one.label)))
                 reading.left_out.append(LeftOut(one.faults[0].line, name, reasons, number, title))
             else:
                 reading.problems.append(Problem.of_lines(number, one.lines))
     return reading
-
-
-def _title_of(draft: Draft) -> str:
-    return "; ".join(text for command, text in draft.texts if command is Command.TITLE and text)
 
 
 def joined(

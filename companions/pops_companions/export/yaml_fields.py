@@ -73,12 +73,14 @@ def source_of(origin: str, remarks: Sequence[str]) -> Optional[tuple[Source, lis
     """
     rests = [found[1] for found in (_SOURCE.fullmatch(text) for text in remarks) if found]
     others = [text for text in remarks if not _SOURCE.fullmatch(text)]
-    more = tuple(_named(rests[0])) if len(rests) == 1 else ()
+    # (as in `volume 5, issue 3`)
+    parts = [it.partition(" ") for it in rests[0].split(", ")] if len(rests) == 1 else []
+    more = tuple((name, text) for name, _, text in parts)
     dated = _DATE.fullmatch(origin)
     changed = more if dated is None else tuple(_dated(more, dated))
     # (four digits at the end are a year, or the number of a problem)
-    for parts, rest in ((dated, more), (dated, changed), (None, more)):
-        source = _source_of(origin, parts, rest)
+    for date, rest in ((dated, more), (dated, changed), (None, more)):
+        source = _source_of(origin, date, rest)
         named = [("name", source.name)] * bool(source.name) + [*source.more]
         made = origin_of(named + [("date", source.date)] * bool(source.date))
         kept = rests if rest is more else [", ".join(f"{name} {text}" for name, text in rest)]
@@ -114,10 +116,3 @@ def _source_of(
     if number is not None:
         name, more = number[1], (("problemid", number[2]), *more)
     return Source(name, more, date)
-
-
-def _named(rest: str) -> Iterator[tuple[str, str]]:
-    """Yields the named texts of `volume 5, issue 3`."""
-    for part in rest.split(", "):
-        name, _, text = part.partition(" ")
-        yield name, text

@@ -196,13 +196,12 @@ def solution_lines(item: Optional[SoundItem]) -> list[str]:
                 lines.append(_line(line, _is_key(line, phase.kind.value, item)))
             else:
                 lines[-1] += menace
-    return [*lines, "", PARTIAL] if lines and item is not None and _is_partial(item) else lines
-
-
-def _is_partial(item: SoundItem) -> bool:
-    """Returns whether an item may have more solutions: its limit, or the user, stopped the search."""
+    if item is None or not lines:
+        return lines
+    # (its limit, or the user, may have stopped the search)
     totals = [phase.total for phase in item.phases or () if phase.is_possible]
-    return item.unfinished is not None or any(total is None or total.stopped for total in totals)
+    is_partial = item.unfinished is not None or any(it is None or it.stopped for it in totals)
+    return [*lines, "", PARTIAL] if is_partial else lines
 
 
 def _is_key(line: str, phase: str, item: Optional[SoundItem]) -> bool:

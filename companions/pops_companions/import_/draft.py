@@ -6,7 +6,6 @@ from dataclasses import dataclass, field
 from typing import NamedTuple, Optional, Union
 
 from pops_companions.chess.men import Man, Square
-from pops_companions.import_.language import Command
 from pops_companions.import_.words import Message, TextLine, Words
 
 # A man, or the name of one that pops doesn't know.
@@ -90,7 +89,7 @@ class Draft:
         """Takes a number of solutions; a text that says more than it becomes a Remark."""
         self.wanted = number
         if not text.isdecimal():
-            self.texts.append(TextLine(Command.REMARK, f"intended-solutions: {text}"))
+            self.texts.append(TextLine("Remark", f"intended-solutions: {text}"))
 
     def tell_of_skipped(self, words: Words) -> None:
         """Notes what was skipped among words. With a square in it, it may have been meant."""

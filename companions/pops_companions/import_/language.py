@@ -3,108 +3,23 @@
 import unicodedata
 from collections.abc import Iterable, Iterator, Mapping
 from dataclasses import dataclass
-from enum import Enum
-from typing import AbstractSet, Any, NamedTuple, Optional, TypeVar
+from typing import AbstractSet, Any, NamedTuple, Optional
 
 from pops_companions.chess.men import Kind
 from pops_companions.input.reading import OPTIONS
 from pops_companions.stored import stored
 
-Meaning = TypeVar("Meaning")
-
-
-class Command(Enum):
-    """A command of Popeye; its value is the English word."""
-
-    BEGIN = "BeginProblem"
-    END = "EndProblem"
-    NEXT = "NextProblem"
-    ZERO_POSITION = "ZeroPosition"
-    TWIN = "Twin"
-    PIECES = "Pieces"
-    STIPULATION = "Stipulation"
-    STRUCTURED = "SStipulation"
-    CONDITION = "Condition"
-    OPTION = "Option"
-    FORSYTH = "Forsyth"
-    ARRAY = "Array"
-    TITLE = "Title"
-    AUTHOR = "Author"
-    ORIGIN = "Origin"
-    REMARK = "Remark"
-    AWARD = "Award"
-    PROTOCOL = "Protocol"
-    LATEX = "LaTeX"
-    LATEX_PIECES = "LaTeXPieces"
-    TRACE = "Trace"
-    INPUT = "InputFile"
-
-
 # What follows these is the rest of their line.
-TEXT_COMMANDS = frozenset(
-    (Command.TITLE, Command.AUTHOR, Command.ORIGIN, Command.REMARK, Command.AWARD)
-)
-
-
-class Option(Enum):
-    """An option of Popeye; its value is the English word."""
-
-    SET_PLAY = "SetPlay"
-    VARIATION = "Variation"
-    NO_BOARD = "NoBoard"
-    MAX_SOLUTIONS = "MaxSolutions"
-    EN_PASSANT = "EnPassant"
-    NO_CASTLING = "NoCastling"
-    DUPLEX = "Duplex"
-    HALF_DUPLEX = "HalfDuplex"
-    WHITE_TO_PLAY = "WhiteToPlay"
-    TRY = "Try"
-    DEFENCE = "Defence"
-    THREAT = "Threat"
-    NO_THREAT = "NoThreat"
-    NON_TRIVIAL = "NonTrivial"
-    MAX_FLIGHT_SQUARES = "MaxFlightSquares"
-    NO_SHORT_VARIATIONS = "NoShortVariations"
-    STOP_ON_SHORT_SOLUTIONS = "StopOnShortSolutions"
-    INTELLIGENT = "Intelligent"
-    MAX_TIME = "MaxTime"
-    MOVE_NUMBERS = "MoveNumbers"
-    START_MOVE_NUMBER = "StartMoveNumber"
-    BEEP = "Beep"
-    POST_KEY_PLAY = "PostKeyPlay"
-    QUODLIBET = "Quodlibet"
-
-
+TEXT_COMMANDS = frozenset(("Title", "Author", "Origin", "Remark", "Award"))
 # The options that pops reads. A short form that fits several options means one of these.
-OWN_OPTIONS = frozenset(Option(it) for it in OPTIONS)
+OWN_OPTIONS = frozenset(OPTIONS)
+# Words that have to differ from others have this many letters or more.
+_LEAST_LETTERS = 3
 
-
-class Twinning(Enum):
-    """What Popeye does to a position to make a twin; its value is the English word."""
-
-    MOVE = "Move"
-    EXCHANGE = "Exchange"
-    REMOVE = "Remove"
-    ADD = "Add"
-    SUBSTITUTE = "Substitute"
-    STIPULATION = "Stipulation"
-    STRUCTURED = "SStipulation"
-    CONDITION = "Condition"
-    ROTATE = "Rotate"
-    MIRROR = "Mirror"
-    SHIFT = "Shift"
-    POLISH_TYPE = "PolishType"
-    CONTINUED = "Continued"
-
-
-# What each word means, with the words in English, German and French; `attributes` are words before
-# men that give them other powers, of all languages together.
+# What each word means, by its English name, with the words in English, German and French.
 _WORDS: dict[str, Any] = stored("import_/words.json")
-_COMMANDS = [(Command(it), words) for it, words in _WORDS["commands"].items()]
-_OPTIONS = [(Option(it), words) for it, words in _WORDS["options"].items()]
-_TWINNINGS = [(Twinning(it), words) for it, words in _WORDS["twinnings"].items()]
-_COLOURS = [(str(it), words) for it, words in _WORDS["colours"].items()]
-_LETTERS = [(Kind(it), words) for it, words in _WORDS["letters"].items()]
+# Options without which a problem is the same, with why.
+LEFT_OUT: Mapping[str, str] = _WORDS["left_out"]
 
 
 def folded(word: str) -> str:
@@ -120,7 +35,7 @@ def folded(word: str) -> str:
 
 
 # What each word, and each beginning of one, may mean.
-Table = Mapping[str, frozenset[Meaning]]
+Table = Mapping[str, frozenset[str]]
 
 
 @dataclass(frozen=True)
@@ -128,16 +43,16 @@ class Language:
     """A language of Popeye's inputs, its words as they are looked up."""
 
     name: str
-    commands: Table[Command]
-    options: Table[Option]
-    twinnings: Table[Twinning]
-    colours: Table[str]
+    commands: Table
+    options: Table
+    twinnings: Table
+    colours: Table
     letters: Mapping[str, Kind]
 
 
 def meaning(
-    word: str, table: Table[Meaning], preferred: Optional[AbstractSet[Meaning]] = None
-) -> Optional[Meaning]:
+    word: str, table: Table, preferred: Optional[AbstractSet[str]] = None
+) -> Optional[str]:
     """Returns what a word of a table, or one that is short for it, means. None where that isn't
     certain.
 
@@ -149,15 +64,17 @@ def meaning(
     return next(iter(meanings)) if len(meanings) == 1 else None
 
 
-def is_attribute(word: str) -> bool:
-    """Returns whether a word before men gives them other powers."""
-    return word in _ATTRIBUTE_FORMS
+def meaning_of_three(
+    word: str, table: Table, preferred: Optional[AbstractSet[str]] = None
+) -> Optional[str]:
+    """Returns what a word means that has three letters or more; None for a shorter one."""
+    return meaning(word, table, preferred) if len(word) >= _LEAST_LETTERS else None
 
 
-def table_of(words: Iterable[tuple[str, Meaning]]) -> Table[Meaning]:
+def table_of(words: Iterable[tuple[str, str]]) -> Table:
     """Returns the table of words with their meanings. A whole word means nothing else."""
-    forms: dict[str, frozenset[Meaning]] = {}
-    whole: dict[str, frozenset[Meaning]] = {}
+    forms: dict[str, frozenset[str]] = {}
+    whole: dict[str, frozenset[str]] = {}
     for word, what in words:
         key = word.lower()
         whole[key] = frozenset((what,))
@@ -166,10 +83,8 @@ def table_of(words: Iterable[tuple[str, Meaning]]) -> Table[Meaning]:
     return {**forms, **whole}
 
 
-def _words(
-    rows: Iterable[tuple[Meaning, list[str]]], place: int
-) -> Iterator[tuple[str, Meaning]]:
-    for what, words in rows:
+def _words(which: str, place: int) -> Iterator[tuple[str, str]]:
+    for what, words in _WORDS[which].items():
         for word in words[place].split():
             yield word, what
 
@@ -177,15 +92,16 @@ def _words(
 def _language(place: int, name: str) -> Language:
     return Language(
         name,
-        table_of(_words(_COMMANDS, place)),
-        table_of(_words(_OPTIONS, place)),
-        table_of(_words(_TWINNINGS, place)),
-        table_of(_words(_COLOURS, place)),
-        {letter.lower(): kind for letter, kind in _words(_LETTERS, place)},
+        table_of(_words("commands", place)),
+        table_of(_words("options", place)),
+        table_of(_words("twinnings", place)),
+        table_of(_words("colours", place)),
+        {letter.lower(): Kind(kind) for letter, kind in _words("letters", place)},
     )
 
 
-_ATTRIBUTE_FORMS = frozenset(_WORDS["attributes"].lower().split())
+# Words before men that give them other powers.
+ATTRIBUTES = frozenset(_WORDS["attributes"].lower().split())
 _NAMES = ("English", "German", "French")
 ENGLISH, GERMAN, FRENCH = LANGUAGES = tuple(
     _language(place, name) for place, name in enumerate(_NAMES)

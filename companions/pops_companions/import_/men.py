@@ -6,7 +6,7 @@ from typing import NamedTuple
 
 from pops_companions.chess.men import Colour, Kind, Man, Square
 from pops_companions.import_.draft import Placed
-from pops_companions.import_.language import is_attribute, meaning
+from pops_companions.import_.language import ATTRIBUTES, meaning
 from pops_companions.import_.words import Unreadable, Word, Words
 
 _PAIR = re.compile("([a-h][1-8])<?[-=]+>?([a-h][1-8])")
@@ -61,7 +61,7 @@ def read_men(words: Words) -> list[PlacedMan]:
         if named is not None:
             words.take()
             colour, attributes = named, []
-        elif is_attribute(word.key):
+        elif word.key in ATTRIBUTES:
             # (each once: every man is named by all of them)
             attribute = words.take().text.title()
             attributes += [attribute] * (attribute not in attributes)

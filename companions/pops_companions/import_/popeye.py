@@ -1,7 +1,7 @@
 """Reads inputs of Popeye."""
 
 import re
-from collections.abc import Iterable
+from collections.abc import Container
 from typing import Optional
 
 from pops_companions.chess.men import Kind, Man
@@ -10,10 +10,10 @@ from pops_companions.import_.language import (
     ENGLISH,
     LANGUAGES,
     TEXT_COMMANDS,
-    Command,
     Language,
     folded,
     meaning,
+    meaning_of_three,
 )
 from pops_companions.import_.men import PlacedMan, read_forsyth, read_men
 from pops_companions.import_.options import read_options
@@ -22,19 +22,18 @@ from pops_companions.import_.twins import read_twin
 from pops_companions.import_.words import Message, Unreadable, Word, Words
 
 _FIRST_WORD = re.compile(r"^[^\w\n]*([^\W\d_]+)", re.MULTILINE)
-_LEAST_LETTERS = 3
 _GAME_ARRAY = "rsbqkbsr/pppppppp/8/8/8/8/PPPPPPPP/RSBQKBSR"
 # Where Popeye writes; a file's name may follow.
-_OUTPUTS = (Command.PROTOCOL, Command.LATEX, Command.LATEX_PIECES, Command.TRACE)
+_OUTPUTS = ("Protocol", "LaTeX", "LaTeXPieces", "Trace")
 _SECOND_BLOCK = (
     "it comes after EndProblem, where neither Popeye nor pops reads on, and so do those after it:"
     " write NextProblem for EndProblem and the BeginProblem after it"
 )
 _UNREADABLE = {
-    Command.BEGIN: "a second BeginProblem: NextProblem parts problems",
-    Command.STRUCTURED: "pops knows no SStipulation",
-    Command.INPUT: "InputFile isn't followed: give that file by itself",
-    Command.ZERO_POSITION: "ZeroPosition comes after a twin",
+    "BeginProblem": "a second BeginProblem: NextProblem parts problems",
+    "SStipulation": "pops knows no SStipulation",
+    "InputFile": "InputFile isn't followed: give that file by itself",
+    "ZeroPosition": "ZeroPosition comes after a twin",
 }
 
 
@@ -67,8 +66,7 @@ def _beginning(text: str) -> Optional[tuple[Language, int]]:
     for found in _FIRST_WORD.finditer(text):
         word = folded(found[1])
         for language in LANGUAGES:
-            begins = meaning(word, language.commands) is Command.BEGIN
-            if begins and len(word) >= _LEAST_LETTERS:
+            if meaning_of_three(word, language.commands) == "BeginProblem":
                 return language, found.end()
     return None
 
@@ -81,15 +79,15 @@ class _Reader:
 
     def drafts(self) -> list[Draft]:
         drafts: list[Draft] = []
-        closed: Optional[Command] = Command.NEXT
-        while closed is Command.NEXT:
+        closed: Optional[str] = "NextProblem"
+        while closed == "NextProblem":
             draft = Draft(len(drafts) + 1, self._words.line)
             drafts.append(draft)
             closed = self._problem(draft)
             draft.texts.extend(self._words.texts)
             self._words.texts = []
             draft.tell_of_skipped(self._words)
-        if closed is Command.END:
+        if closed == "EndProblem":
             self._tell_of_rest(drafts)
         return drafts
 
@@ -108,81 +106,80 @@ class _Reader:
         lost.faults.append(Message(line, _SECOND_BLOCK))
         drafts.append(lost)
 
-    def _problem(self, draft: Draft) -> Optional[Command]:
+    def _problem(self, draft: Draft) -> Optional[str]:
         """Reads a problem and the word that closes it; what that is, None at the text's end."""
         try:
             return self._sections(draft)
         except Unreadable as error:
             draft.faults.append(error.message)
-        self._skip_to((Command.NEXT, Command.END))
+        self._skip_to(("NextProblem", "EndProblem"))
         return None if self._words.peek() is None else self._command(self._words.take())
 
-    def _command(self, word: Word) -> Optional[Command]:
+    def _command(self, word: Word) -> Optional[str]:
         return meaning(word.key, self._words.language.commands)
 
-    def _skip_to(self, commands: Iterable[Command]) -> None:
+    def _skip_to(self, commands: Container[Optional[str]]) -> None:
         """Skips the words up to one of the commands."""
         for word in self._words.ahead():
-            command = self._command(word) if len(word.key) >= _LEAST_LETTERS else None
-            if command is not None and command in commands:
+            if meaning_of_three(word.key, self._words.language.commands) in commands:
                 return
             self._words.take()
 
-    def _sections(self, draft: Draft) -> Command:
+    def _sections(self, draft: Draft) -> str:
         for word in self._words.ahead():
             command = self._command(word)
             if command is None:
                 raise Unreadable(word.line, self._unknown(word))
             self._words.take()
-            if command in (Command.NEXT, Command.END):
+            if command in ("NextProblem", "EndProblem"):
                 return command
             self._section(command, draft)
         raise Unreadable(self._words.line, "the text ends before EndProblem")
 
     def _unknown(self, word: Word) -> str:
         own = self._words.language
-        for language in LANGUAGES if len(word.key) >= _LEAST_LETTERS else ():
-            if meaning(word.key, language.commands) is not None:
+        for language in LANGUAGES:
+            if meaning_of_three(word.key, language.commands) is not None:
                 return f"{word.text} is {language.name}, and the text began in {own.name}"
         return f"{word.text} isn't known here"
 
-    def _section(self, command: Command, draft: Draft) -> None:
+    def _section(self, command: str, draft: Draft) -> None:
         words = self._words
         if command in TEXT_COMMANDS:
             words.put_text_line_aside(command)
         elif command in _OUTPUTS:
-            text = f"{command.value} {words.take_rest()}".strip()
+            text = f"{command} {words.take_rest()}".strip()
             why = "pops writes only to standard output"
             draft.notes.append(Message(words.line, f"{text} left out: {why}"))
-        elif command is Command.TWIN or (command is Command.ZERO_POSITION and not draft.twins):
-            draft.first = draft.first and command is Command.TWIN
+        elif command == "Twin" or (command == "ZeroPosition" and not draft.twins):
+            draft.first = draft.first and command == "Twin"
             self._twin(command, draft)
         elif command in _UNREADABLE:
             raise Unreadable(words.line, _UNREADABLE[command])
         elif draft.twins:
-            raise Unreadable(words.line, f"{command.value} comes after a twin")
+            raise Unreadable(words.line, f"{command} comes after a twin")
         else:
             self._of_setting(command, draft)
 
-    def _of_setting(self, command: Command, draft: Draft) -> None:
+    def _of_setting(self, command: str, draft: Draft) -> None:
         words, setting = self._words, draft.setting
-        if command is Command.PIECES:
+        if command == "Pieces":
             place(draft, read_men(words))
-        elif command is Command.FORSYTH:
+        elif command == "Forsyth":
             place(draft, self._forsyth(draft))
-        elif command is Command.ARRAY:
+        elif command == "Array":
             men = read_forsyth(_GAME_ARRAY, ENGLISH.letters)
             place(draft, [PlacedMan(square, man, words.line) for square, man in men.items()])
-        elif command is Command.STIPULATION:
+        elif command == "Stipulation":
             if setting.stipulation is not None:
                 raise Unreadable(words.line, "a second stipulation")
             setting.stipulation = take_stipulation(words)
             wanted, text = take_wanted(words)
             if wanted is not None:
                 draft.want(wanted, text)
-        elif command is Command.CONDITION:
+        elif command == "Condition":
             setting.conditions = take_conditions(words, setting.conditions)
-        elif command is Command.OPTION:
+        elif command == "Option":
             read_options(words, draft)
 
     def _forsyth(self, draft: Draft) -> list[PlacedMan]:
@@ -202,7 +199,7 @@ class _Reader:
             draft.notes.append(Message(word.line, text))
         return [PlacedMan(square, man, word.line) for square, man in men.items()]
 
-    def _twin(self, command: Command, draft: Draft) -> None:
+    def _twin(self, command: str, draft: Draft) -> None:
         """Reads a twin. ZeroPosition may stand by itself, before the twin a)."""
         number = len(draft.twins) + (1 if draft.first else 0)
         twin = Twin(label_of_twin(number), self._words.line)
@@ -213,8 +210,8 @@ class _Reader:
                 raise Unreadable(word.line, self._unknown(word))
         except Unreadable as error:
             twin.faults.append(error.message)
-            self._skip_to((Command.TWIN, Command.NEXT, Command.END))
-        if command is Command.TWIN or twin.changes or twin.faults:
+            self._skip_to(("Twin", "NextProblem", "EndProblem"))
+        if command == "Twin" or twin.changes or twin.faults:
             draft.twins.append(twin)
 
 

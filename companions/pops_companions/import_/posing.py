@@ -8,12 +8,11 @@ from typing import NamedTuple, Optional
 from pops_companions.chess.men import Colour, Kind, Man, Square
 from pops_companions.chess.stipulation import Condition, Goal, Stipulation
 from pops_companions.import_.draft import Draft, Impossible, Options, Setting
-from pops_companions.import_.language import Command
 from pops_companions.import_.twins import with_other_colour
 from pops_companions.import_.words import Message
 from pops_companions.input.given import LONGEST_TEXT
 from pops_companions.input.reading import en_passant_wants
-from pops_companions.input.writing import pieces_line
+from pops_companions.input.writing import pieces_line, posing_lines
 
 # How much of what is said of a whole problem its further twins repeat: Origins, and notes, and how
 # many letters of each.
@@ -64,19 +63,19 @@ class _Said(NamedTuple):
 
     @staticmethod
     def of(draft: Draft) -> "_Said":
-        texts: dict[Command, list[str]] = {}
+        texts: dict[str, list[str]] = {}
         remarks: list[str] = []
         for command, text in draft.texts:
             texts.setdefault(command, []).append(text)
-            if command in (Command.REMARK, Command.AWARD):
-                remarks.append(text if command is Command.REMARK else f"Award {text}")
+            if command in ("Remark", "Award"):
+                remarks.append(text if command == "Remark" else f"Award {text}")
         men = {square: man for square, man in draft.setting.men.items() if isinstance(man, Man)}
         if not draft.first and men and len(men) == len(draft.setting.men):
             remarks.append(pieces_line(men).replace("Pieces ", ZERO_POSITION, 1))
         return _Said(
-            "; ".join(filter(None, texts.get(Command.TITLE, ()))),
-            "; ".join(filter(None, texts.get(Command.AUTHOR, ()))),
-            texts.get(Command.ORIGIN, []),
+            "; ".join(filter(None, texts.get("Title", ()))),
+            "; ".join(filter(None, texts.get("Author", ()))),
+            texts.get("Origin", []),
             remarks,
             [] if draft.wanted is None else [f"solutions {draft.wanted}"],
             draft.notes,
@@ -283,9 +282,6 @@ class _Checked:
     def lines(self) -> list[str]:
         """Returns men, stipulation, condition and options."""
         assert self._stipulation is not None
-        lines = [pieces_line(self._men), f"Stipulation {self._stipulation.text}"]
-        if self._condition is not None:
-            lines.append(f"Condition {self._condition.value}")
         options = self._version.options
         words = list(options.words)
         if options.max_solutions is not None:
@@ -294,9 +290,7 @@ class _Checked:
             words.append(f"EnPassant {self._crossed.name}")
         if options.may_not_castle:
             words.append("NoCastling " + "".join(one.name for one in options.may_not_castle))
-        if words:
-            lines.append("Option " + " ".join(words))
-        return lines
+        return posing_lines(self._men, self._stipulation, self._condition, words)
 
 
 def _texts(said: _Said, version: _Version, notes: list[Message], is_first: bool) -> list[str]:
@@ -307,16 +301,16 @@ def _texts(said: _Said, version: _Version, notes: list[Message], is_first: bool)
     lines = []
     remarks = []
     for command, whole, label in (
-        (Command.TITLE, said.title, version.label),
-        (Command.AUTHOR, said.author, ""),
+        ("Title", said.title, version.label),
+        ("Author", said.author, ""),
     ):
         text = _shortened(whole, LONGEST_TEXT - len(f" {label}".rstrip()))
         if text != whole:
-            remarks += [f"{command.value} {whole}"] * is_first
-            shortened = f"{command.value} shortened to {LONGEST_TEXT} bytes: see Remark"
+            remarks += [f"{command} {whole}"] * is_first
+            shortened = f"{command} shortened to {LONGEST_TEXT} bytes: see Remark"
             notes.append(Message(version.line, shortened))
         if text or label:
-            lines.append(" ".join(filter(None, (command.value, text, label))))
+            lines.append(" ".join(filter(None, (command, text, label))))
     origins, told = said.origins, [note.text for note in said.notes]
     if not is_first:
         origins, told = _repeated(origins), _repeated(told)

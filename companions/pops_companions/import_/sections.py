@@ -4,10 +4,9 @@ import re
 from typing import Optional
 
 from pops_companions.chess.stipulation import Condition
-from pops_companions.import_.language import meaning, table_of
+from pops_companions.import_.language import meaning, meaning_of_three, table_of
 from pops_companions.import_.words import Unreadable, Word, Words
 
-_LEAST_LETTERS = 3
 _CONDITIONS = table_of((condition.value, condition.value) for condition in Condition)
 # pops knows no two at once, and a message names fewer.
 _MOST_CONDITIONS = 100
@@ -51,15 +50,12 @@ def take_stipulation(words: Words) -> str:
 
 def _is_command(word: Word, words: Words) -> bool:
     """Returns whether a word is a command or short for one."""
-    if len(word.key) < _LEAST_LETTERS:
-        return False
-    return meaning(word.key, words.language.commands) is not None
+    return meaning_of_three(word.key, words.language.commands) is not None
 
 
 def is_condition(text: str) -> bool:
     """Returns whether a word is a condition that pops knows, or short for one."""
-    key = text.lower()
-    return len(key) >= _LEAST_LETTERS and meaning(key, _CONDITIONS) is not None
+    return meaning_of_three(text.lower(), _CONDITIONS) is not None
 
 
 def take_conditions(words: Words, before: tuple[str, ...] = ()) -> tuple[str, ...]:
@@ -76,6 +72,5 @@ def take_conditions(words: Words, before: tuple[str, ...] = ()) -> tuple[str, ..
         if conditions and words.of_twin and twinning is not None:
             break
         words.take()
-        known = meaning(word.key, _CONDITIONS) if len(word.key) >= _LEAST_LETTERS else None
-        conditions.append(known or word.text)
+        conditions.append(meaning_of_three(word.key, _CONDITIONS) or word.text)
     return tuple(dict.fromkeys(before + tuple(conditions)))[:_MOST_CONDITIONS]

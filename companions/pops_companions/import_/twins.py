@@ -6,7 +6,7 @@ from dataclasses import replace
 
 from pops_companions.chess.men import Colour, Kind, Man, Square
 from pops_companions.import_.draft import Change, Impossible, Placed, Setting, Twin
-from pops_companions.import_.language import Twinning, meaning
+from pops_companions.import_.language import meaning
 from pops_companions.import_.men import PlacedMan, read_men, take_pair, take_squares
 from pops_companions.import_.sections import take_conditions, take_stipulation
 from pops_companions.import_.words import Unreadable, Words
@@ -40,7 +40,7 @@ def read_twin(words: Words, twin: Twin) -> None:
             if twinning is None:
                 return
             words.take()
-            if twinning is Twinning.CONTINUED:
+            if twinning == "Continued":
                 twin.continued = True
             else:
                 twin.changes.append(_change(words, twinning))
@@ -48,19 +48,18 @@ def read_twin(words: Words, twin: Twin) -> None:
         words.of_twin = False
 
 
-def _change(words: Words, twinning: Twinning) -> Change:
+def _change(words: Words, name: str) -> Change:
     line = words.line
-    name = twinning.value
-    if twinning is Twinning.STIPULATION:
+    if name == "Stipulation":
         text = take_stipulation(words)
         return Change(f"{name} {text}", line, lambda setting, _: replace(setting, stipulation=text))
-    if twinning is Twinning.CONDITION:
+    if name == "Condition":
         given = take_conditions(words)
         text = " ".join((name, *given))
         return Change(text, line, lambda setting, _: replace(setting, conditions=given))
-    if twinning not in _CHANGES_OF_MEN:
+    if name not in _CHANGES_OF_MEN:
         raise Unreadable(line, f"pops knows no {name}")
-    text, changed = _CHANGES_OF_MEN[twinning](words, name)
+    text, changed = _CHANGES_OF_MEN[name](words, name)
 
     def made(setting: Setting, said: list[str]) -> Setting:
         return replace(setting, men=changed(dict(setting.men), said))
@@ -218,14 +217,14 @@ def _each_square(men: Men, moved: Moved) -> Men:
     return {Square(*moved(square.file, square.rank)): man for square, man in men.items()}
 
 
-_CHANGES_OF_MEN: dict[Twinning, Callable[[Words, str], ChangeOfMen]] = {
-    Twinning.MOVE: _move,
-    Twinning.EXCHANGE: _exchange,
-    Twinning.REMOVE: _remove,
-    Twinning.ADD: _add,
-    Twinning.SUBSTITUTE: _substitute,
-    Twinning.POLISH_TYPE: _polish,
-    Twinning.ROTATE: _rotate,
-    Twinning.MIRROR: _mirror,
-    Twinning.SHIFT: _shift,
+_CHANGES_OF_MEN: dict[str, Callable[[Words, str], ChangeOfMen]] = {
+    "Move": _move,
+    "Exchange": _exchange,
+    "Remove": _remove,
+    "Add": _add,
+    "Substitute": _substitute,
+    "PolishType": _polish,
+    "Rotate": _rotate,
+    "Mirror": _mirror,
+    "Shift": _shift,
 }

@@ -4,7 +4,13 @@ import re
 from collections.abc import Iterator
 from typing import NamedTuple, Optional
 
-from pops_companions.import_.language import TEXT_COMMANDS, Command, Language, folded, meaning
+from pops_companions.import_.language import (
+    TEXT_COMMANDS,
+    Language,
+    folded,
+    meaning,
+    meaning_of_three,
+)
 
 # Beside letters and digits these belong to words; what begins with another character is skipped.
 _SIGNS = r"#=+\-.<>/*!~()\[\]&"
@@ -13,8 +19,6 @@ _WORD = re.compile(rf"(?:[^\W_]|[{_SIGNS}])+")
 _OTHER = re.compile(r"\S+")
 # What is cut off at both ends of a line of text, as pops does.
 _ENDS = " \t\v\f\r"
-# The fewest letters of a text line's word among the words of a command.
-_LEAST_TEXT_WORD = 3
 
 
 class Message(NamedTuple):
@@ -44,7 +48,7 @@ class Word(NamedTuple):
 class TextLine(NamedTuple):
     """A line of text: its command and what follows."""
 
-    command: Command
+    command: str
     text: str
 
 
@@ -101,23 +105,21 @@ class Words:
         self._at, self._next = len(self._text), None
         return rest
 
-    def put_text_line_aside(self, command: Command) -> None:
+    def put_text_line_aside(self, command: str) -> None:
         """Keeps the rest of the line as the text of a command whose word was taken."""
         self.texts.append(TextLine(command, self.take_rest()))
 
     def _found(self) -> Optional[Word]:
         while True:
             word = self._word()
-            if word is None or len(word.key) < _LEAST_TEXT_WORD:
-                return word
-            command = meaning(word.key, self.language.commands)
-            if command not in TEXT_COMMANDS or self._is_twinning(word):
+            if word is None:
+                return None
+            command = meaning_of_three(word.key, self.language.commands)
+            twinning = meaning(word.key, self.language.twinnings) if self.of_twin else None
+            if command not in TEXT_COMMANDS or twinning is not None:
                 return word
             self._at, self._line = word.end, word.line
             self.put_text_line_aside(command)
-
-    def _is_twinning(self, word: Word) -> bool:
-        return self.of_twin and meaning(word.key, self.language.twinnings) is not None
 
     def _word(self) -> Optional[Word]:
         at, line = self._at, self._line

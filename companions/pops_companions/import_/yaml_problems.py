@@ -3,7 +3,7 @@
 from collections.abc import Callable, Iterator
 
 from pops_companions.import_.draft import Draft, Twin
-from pops_companions.import_.language import ENGLISH, Command
+from pops_companions.import_.language import ENGLISH
 from pops_companions.import_.men import read_men
 from pops_companions.import_.options import read_options
 from pops_companions.import_.origins import BELOW_DATE, origin_of
@@ -59,12 +59,13 @@ def _problems_in(node: Node) -> list[Node]:
 
 
 def _read_key(key: str, value: Node, draft: Draft) -> None:
+    # (source and date are read together, after all keys)
+    if key.lower() in ("source", "date"):
+        return
     readers = {
         "title": _read_names,
         "author": _read_names,
         "authors": _read_names,
-        "source": _read_later,
-        "date": _read_later,
         "algebraic": _read_men,
         "stipulation": _read_stipulation,
         "conditions": _read_conditions,
@@ -90,13 +91,9 @@ def _read_key_of_database(key: str, value: Node, draft: Draft) -> None:
 
 def _read_award(key: str, value: Node, draft: Draft) -> None:
     if isinstance(value, Scalar):
-        draft.texts.append(TextLine(Command.AWARD, _one_line(value, " ")))
+        draft.texts.append(TextLine("Award", _one_line(value, " ")))
     else:
         _read_other(key, value, draft)
-
-
-def _read_later(_: str, __: Node, ___: Draft) -> None:
-    """Source and date are read together, after all keys."""
 
 
 def _texts(node: Node) -> list[Scalar]:
@@ -118,7 +115,7 @@ def _one_line(node: Node, between: str) -> str:
 
 
 def _read_names(key: str, value: Node, draft: Draft) -> None:
-    command = Command.TITLE if key.lower() == "title" else Command.AUTHOR
+    command = "Title" if key.lower() == "title" else "Author"
     draft.texts.append(TextLine(command, _one_line(value, "; ")))
 
 
@@ -133,9 +130,9 @@ def _read_origin(keys: dict[str, Node], draft: Draft) -> None:
             parts.extend(_parts_of_origin("date", value))
     line, rest = origin_of(parts)
     if line:
-        draft.texts.append(TextLine(Command.ORIGIN, line))
+        draft.texts.append(TextLine("Origin", line))
     if rest:
-        draft.texts.append(TextLine(Command.REMARK, f"source: {rest}"))
+        draft.texts.append(TextLine("Remark", f"source: {rest}"))
 
 
 def _parts_of_origin(name: str, node: Node) -> Iterator[tuple[str, str]]:
@@ -183,14 +180,14 @@ def _read_wanted(key: str, value: Node, draft: Draft) -> None:
 
 def _read_comments(_: str, value: Node, draft: Draft) -> None:
     for text in _texts(value):
-        draft.texts.extend(TextLine(Command.REMARK, line) for line in text.split("\n"))
+        draft.texts.extend(TextLine("Remark", line) for line in text.split("\n"))
 
 
 def _read_other(key: str, value: Node, draft: Draft) -> None:
     """Keeps what pops has no word for: a Remark for each line."""
     for name, text in _named_texts(_shortened(key), value):
         for line in text.split("\n"):
-            draft.texts.append(TextLine(Command.REMARK, f"{name}: {line}".rstrip()))
+            draft.texts.append(TextLine("Remark", f"{name}: {line}".rstrip()))
 
 
 def _named_texts(name: str, node: Node) -> Iterator[tuple[str, Scalar]]:
@@ -215,7 +212,7 @@ def _words_of(text: Scalar, read: Callable[[Words], None], draft: Draft, before:
     words = Words(f"{before}{text}", ENGLISH, 0, text.line)
     read(words)
     left = words.peek()
-    for unknown in [left.text] if left is not None else [one.command.value for one in words.texts]:
+    for unknown in [left.text] if left is not None else [one.command for one in words.texts]:
         raise Unreadable(text.line, f"{unknown} isn't known here")
     draft.tell_of_skipped(words)
 

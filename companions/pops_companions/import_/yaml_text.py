@@ -200,10 +200,7 @@ class _Reader:
         self._first = first
 
     def document(self) -> Node:
-        return next(self._node(event) for event in self._events if self._is_node(event))
-
-    def _is_node(self, event: Any) -> bool:
-        return isinstance(event, self._nodes)
+        return next(self._node(event) for event in self._events if isinstance(event, self._nodes))
 
     def _line(self, event: Any) -> int:
         line: int = self._first + event.start_mark.line

@@ -6,8 +6,8 @@ from typing import NamedTuple, Optional
 
 from pops_companions.chess.stipulation import Stipulation
 from pops_companions.input.pieces import Piece, cut
-from pops_companions.input.reading import SECTIONS, Section
-from pops_companions.input.words import TextLine, TextWord, Word, is_short_for, named
+from pops_companions.input.reading import SECTIONS
+from pops_companions.input.words import TextLine, Word, is_short_for, named
 
 # The most bytes of a title or an author in a report, and what is cut off at both ends.
 LONGEST_TEXT = 200
@@ -20,7 +20,7 @@ _WANTED = re.compile(
 class GivenSection(NamedTuple):
     """A command with the words after it; words before the first command make a section of none."""
 
-    command: Optional[Section]
+    command: Optional[str]
     words: list[bytes]
 
 
@@ -36,36 +36,36 @@ class GivenProblem:
     words: tuple[bytes, ...]
     texts: tuple[TextLine, ...]
 
-    def lines_of(self, word: TextWord) -> list[bytes]:
+    def lines_of(self, name: str) -> list[bytes]:
         """Returns the text lines of a word, without the blanks at both ends, empty ones left out.
         """
-        texts = (line.text.strip(_BLANKS) for line in self.texts if line.kind is word)
+        texts = (line.text.strip(_BLANKS) for line in self.texts if line.name == name)
         return [text for text in texts if text]
 
     @property
     def title(self) -> Optional[bytes]:
         """Its title, the last one as in a report."""
-        return _last(self.lines_of(TextWord.TITLE))
+        return _last(self.lines_of("Title"))
 
     @property
     def author(self) -> Optional[bytes]:
         """Its author, the last one as in a report."""
-        return _last(self.lines_of(TextWord.AUTHOR))
+        return _last(self.lines_of("Author"))
 
     @property
     def origin(self) -> Optional[bytes]:
         """Where it was published: its Origin lines, joined."""
-        return b"; ".join(self.lines_of(TextWord.ORIGIN)) or None
+        return b"; ".join(self.lines_of("Origin")) or None
 
     @property
     def remarks(self) -> list[bytes]:
-        return self.lines_of(TextWord.REMARK)
+        return self.lines_of("Remark")
 
     @property
     def stipulation(self) -> Optional[Stipulation]:
         """Its stipulation; None where pops would find a fault in it."""
         for section in self.sections:
-            if section.command is Section.STIPULATION and len(section.words) > 1:
+            if section.command == "Stipulation" and len(section.words) > 1:
                 try:
                     return Stipulation.of_text(section.words[1].decode("latin-1").lower())
                 except ValueError:
@@ -79,7 +79,7 @@ class GivenProblem:
         for word in self.words:
             command = named(word, SECTIONS)
             if command is not None:
-                sections.append(GivenSection(Section(command), [word]))
+                sections.append(GivenSection(command, [word]))
             elif sections:
                 sections[-1].words.append(word)
             else:
@@ -89,7 +89,7 @@ class GivenProblem:
     @property
     def has_variations(self) -> bool:
         """Whether it has the option Variation."""
-        options = (it for it in self.sections if it.command is Section.OPTION)
+        options = (it for it in self.sections if it.command == "Option")
         return any(is_short_for(word, "Variation") for it in options for word in it.words[1:])
 
     @property

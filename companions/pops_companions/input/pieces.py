@@ -5,7 +5,6 @@ everywhere but in the text of Title, Author, Origin and Remark. pops reads nothi
 """
 
 import re
-from enum import Enum
 from typing import NamedTuple, Optional
 
 from pops_companions.input.words import BLANKS, TEXT_WORDS, Token, short_forms, tokens_in
@@ -143,19 +142,12 @@ def rest_after(text: bytes, last: Piece) -> Optional[Rest]:
     return Rest(text.count(b"\n", 0, first.start()) + 1, problems)
 
 
-class Stops(Enum):
-    """The words that a search stops at; its value finds them."""
-
-    END = _MARKS
-    BEGIN_OR_END = _STOPS
-
-
-def stop_after(text: bytes, start: int, stops: Stops) -> int:
-    """Returns where the next word ends that begins or ends a problem; the end of the text without one.
+def stop_after(text: bytes, start: int, only_ends: bool) -> int:
+    """Returns where the next word ends that begins a problem, or ends one; without any the text's end.
 
     The search begins in no word and in no text line.
     """
-    marks = stops.value.finditer(text, start)
+    marks = (_MARKS if only_ends else _STOPS).finditer(text, start)
     return next((mark.end() for mark in marks if mark.lastgroup is not None), len(text))
 
 

@@ -36,15 +36,6 @@ _BLANK = re.compile(rb"[" + BLANKS + rb"]")
 _WORDS_AFTER = 1000
 
 
-class Section(Enum):
-    """A section of a problem; its value is the command that opens it."""
-
-    PIECES = "Pieces"
-    STIPULATION = "Stipulation"
-    CONDITION = "Condition"
-    OPTION = "Option"
-
-
 class Awaited(Enum):
     """What the next word has to be after an option, or may be after squares of NoCastling."""
 
@@ -59,7 +50,8 @@ _AWAITED = {
     "EnPassant": Awaited.SQUARE,
     "NoCastling": Awaited.SQUARES,
 }
-SECTIONS = tuple(section.value for section in Section)
+# The commands that open the sections of a problem.
+SECTIONS = ("Pieces", "Stipulation", "Condition", "Option")
 COMMANDS = ("BeginProblem", *SECTIONS, *CLOSING)
 OPTIONS = ("SetPlay", "Variation", "NoBoard", *_AWAITED)
 # What a word of each kind means. (A look at each name would take most of the time of reading.)
@@ -158,7 +150,7 @@ class Reading:
     tokens: list[Token] = field(default_factory=list)
     number: Optional[FaultKind] = None
     at: Optional[int] = None
-    section: Optional[Section] = None
+    section: Optional[str] = None
     opener: Optional[Word] = None
     awaited: Optional[Awaited] = None
     option: Optional[Word] = None
@@ -185,6 +177,12 @@ class Reading:
         token = self.tokens[self.at]
         assert isinstance(token, Word)
         return token
+
+    @property
+    def fault_span(self) -> Span:
+        """Where the faulty word stands; the end of the text where that is missing."""
+        end = len(self.text)
+        return Span(end, end) if self.at is None else self.word.span
 
     @property
     def position(self) -> dict[Square, Man]:
@@ -240,13 +238,7 @@ class Reading:
     @property
     def word_before(self) -> Optional[Word]:
         """The word before the faulty one, over text lines."""
-        place = len(self.tokens) - 2
-        while place >= 0:
-            token = self.tokens[place]
-            if isinstance(token, Word):
-                return token
-            place -= 1
-        return None
+        return next((it for it in reversed(self.tokens[:-1]) if isinstance(it, Word)), None)
 
     def before_fault(self) -> "Reading":
         """Returns what was read before the faulty word; all of it at the end of the text."""
@@ -341,7 +333,7 @@ def step(reading: Reading, word: Word) -> Optional[FaultKind]:
     if command == "BeginProblem":
         return FaultKind.WORD_MISPLACED
     if command in SECTIONS:
-        reading.section, reading.opener = Section(command), word
+        reading.section, reading.opener = command, word
         reading.openers.append(word)
         reading.colour = None
         return None
@@ -448,10 +440,10 @@ def _option(reading: Reading, word: Word) -> Optional[FaultKind]:
 
 
 _READERS = {
-    Section.PIECES: _piece,
-    Section.STIPULATION: _stipulation,
-    Section.CONDITION: _condition,
-    Section.OPTION: _option,
+    "Pieces": _piece,
+    "Stipulation": _stipulation,
+    "Condition": _condition,
+    "Option": _option,
 }
 
 

@@ -3,7 +3,7 @@
 import re
 from collections.abc import Iterator, Sequence
 from dataclasses import dataclass
-from enum import Enum
+from itertools import accumulate
 from typing import Optional, Union
 
 # The bytes between words.
@@ -14,16 +14,8 @@ _WORD = re.compile(rb"[^" + BLANKS + rb"]+")
 _LEAST_LETTERS = 3
 
 
-class TextWord(Enum):
-    """A word that makes the rest of its line text; its value is the word in full."""
-
-    TITLE = "Title"
-    AUTHOR = "Author"
-    ORIGIN = "Origin"
-    REMARK = "Remark"
-
-
-TEXT_WORDS = tuple(word.value for word in TextWord)
+# The words that make the rest of their line text.
+TEXT_WORDS = ("Title", "Author", "Origin", "Remark")
 
 
 @dataclass(frozen=True)
@@ -53,16 +45,11 @@ class Word:
 
 @dataclass(frozen=True)
 class TextLine:
-    """A text word with the rest of its line."""
+    """A text word, its name in full, and the rest of its line."""
 
     word: Word
-    kind: TextWord
+    name: str
     text: bytes
-
-    @property
-    def name(self) -> str:
-        """The text word in full."""
-        return self.kind.value
 
     @property
     def span(self) -> Span:
@@ -105,6 +92,11 @@ def short_forms(name: str) -> bytes:
     return b"|".join(form.encode("ascii") for form in forms)
 
 
+def line_bounds(text: bytes) -> list[int]:
+    """Returns where each line of a text begins, and where one after the last would."""
+    return [0, *accumulate(len(line) + 1 for line in text.split(b"\n"))]
+
+
 def tokens_in(text: bytes, start: int, stop: int, line: int) -> Iterator[Token]:
     """Yields the words and text lines between two places; the first place is on the line given."""
     place = start
@@ -121,5 +113,5 @@ def tokens_in(text: bytes, start: int, stop: int, line: int) -> Iterator[Token]:
             continue
         end = text.find(b"\n", place, stop)
         end = stop if end < 0 else end
-        yield TextLine(word, TextWord(name), text[place:end])
+        yield TextLine(word, name, text[place:end])
         place = end

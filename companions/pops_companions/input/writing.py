@@ -1,24 +1,12 @@
 """Problems as input of pops."""
 
-from collections.abc import Iterable, Mapping
-from dataclasses import dataclass, field
+from collections.abc import Iterable, Mapping, Sequence
+from dataclasses import dataclass, replace
 from typing import Optional, Union
 
 from pops_companions.chess.fen import Position, read_position
 from pops_companions.chess.men import Colour, Kind, Man, Square
 from pops_companions.chess.stipulation import Condition, Stipulation
-
-
-@dataclass(frozen=True)
-class Wishes:
-    """What a problem asks for beside its position and its stipulation."""
-
-    title: str = ""
-    author: str = ""
-    condition: Optional[Condition] = None
-    options: list[str] = field(default_factory=list)
-    keep_colours: bool = False
-    origin: str = ""
 
 
 def text_of_problems(problems: Iterable[list[str]]) -> str:
@@ -44,6 +32,20 @@ def pieces_line(men: Mapping[Square, Man]) -> str:
         for man in own:
             words.append(man.kind.value + "".join(square.name for square in squares[man]))
     return " ".join(words)
+
+
+def posing_lines(
+    men: Mapping[Square, Man],
+    stipulation: Stipulation,
+    condition: Optional[Condition],
+    options: Sequence[str],
+) -> list[str]:
+    """Returns the lines of a problem that decide its solutions."""
+    lines = [pieces_line(men)] if men else []
+    lines.append(f"Stipulation {stipulation.text}")
+    if condition is not None:
+        lines.append(f"Condition {condition.value}")
+    return [*lines, f"Option {' '.join(options)}"] if options else lines
 
 
 @dataclass(frozen=True)
@@ -78,8 +80,7 @@ class Problem:
         """
         position = read_position(fen)
         asked = Stipulation.of_text(stipulation) if isinstance(stipulation, str) else stipulation
-        wishes = Wishes(condition=condition, options=list(options))
-        return problem_of_position(position, fen, asked, wishes)
+        return problem_of_position(position, fen, Problem({}, asked, condition, tuple(options)))
 
     @property
     def lines(self) -> list[str]:
@@ -87,14 +88,7 @@ class Problem:
         named = (("Title", self.title), ("Author", self.author), ("Origin", self.origin))
         lines = [f"{word} {_one_line(text)}" for word, text in named if text]
         lines.extend(f"Remark {_one_line(remark)}" for remark in self.remarks)
-        if self.men:
-            lines.append(pieces_line(self.men))
-        lines.append(f"Stipulation {self.stipulation.text}")
-        if self.condition is not None:
-            lines.append(f"Condition {self.condition.value}")
-        if self.options:
-            lines.append("Option " + " ".join(self.options))
-        return lines
+        return lines + posing_lines(self.men, self.stipulation, self.condition, self.options)
 
     @property
     def text(self) -> str:
@@ -102,53 +96,30 @@ class Problem:
         return text_of_problems([self.lines])
 
 
-def is_turned(position: Position, stipulation: Stipulation, wishes: Wishes) -> bool:
-    """Returns whether the colours are turned round: the side to move isn't the one that starts."""
-    return position.turn not in (None, stipulation.starter) and not wishes.keep_colours
-
-
 def problem_of_position(
-    position: Position, source: str, stipulation: Stipulation, wishes: Wishes
+    position: Position, source: str, wanted: Problem, keep_colours: bool = False
 ) -> Problem:
-    """Returns the problem that is made of a position; the source stands in a Remark.
+    """Returns a problem with the men of a position; the source stands in a Remark.
 
     Where the side to move isn't the one that starts, the colours are turned round, which another
-    Remark says; or, where the wishes keep the colours, what belongs to that move is left out.
+    Remark says; or, where they are kept, what belongs to that move is left out.
     """
     remarks = [f"FEN {source}"]
-    starter = stipulation.starter
-    sides = f"{_turn(starter.opponent)}, and {_start(starter)}"
-    if is_turned(position, stipulation, wishes):
-        position = position.turned
-        remarks.append(f"{sides}: colours turned round")
-    elif position.turn is starter.opponent:
-        position = Position(position.men, None, position.rooks, None)
-        remarks.append(f"{sides}: colours kept")
+    starter = wanted.stipulation.starter
+    if position.turn is starter.opponent:
+        waiting, side = starter.opponent.name.title(), starter.name.title()
+        said = f"{waiting} is to move in the FEN, and {side} starts in a problem of this form"
+        remarks.append(f"{said}: colours {'kept' if keep_colours else 'turned round'}")
+        without_move = Position(position.men, None, position.rooks, None)
+        position = without_move if keep_colours else position.turned
     remarks.extend(_rights_without_men(position))
-    options = list(wishes.options)
+    options = list(wanted.options)
     if position.crossed is not None:
         options.append(f"EnPassant {position.crossed.name}")
-    moved = _moved(position, wishes.condition is Condition.CIRCE)
+    moved = _moved(position, wanted.condition is Condition.CIRCE)
     if moved:
         options.append(f"NoCastling {''.join(square.name for square in moved)}")
-    return Problem(
-        position.men,
-        stipulation,
-        wishes.condition,
-        tuple(options),
-        wishes.title,
-        wishes.author,
-        wishes.origin,
-        tuple(remarks),
-    )
-
-
-def _turn(colour: Colour) -> str:
-    return f"{colour.name.title()} is to move in the FEN"
-
-
-def _start(colour: Colour) -> str:
-    return f"{colour.name.title()} starts in a problem of this form"
+    return replace(wanted, men=position.men, options=tuple(options), remarks=tuple(remarks))
 
 
 def _one_line(text: str) -> str:

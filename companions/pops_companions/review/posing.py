@@ -7,7 +7,6 @@ from typing import Optional
 
 from pops_companions.chess.stipulation import MOST_MOVES, Condition, Play, Stipulation
 from pops_companions.input.given import GivenProblem
-from pops_companions.input.reading import Section
 from pops_companions.input.words import is_short_for
 from pops_companions.report.items import AnyItem, Board, PhaseKind, SoundItem
 
@@ -53,7 +52,7 @@ def _sections(problem: GivenProblem, stipulation: Stipulation) -> Iterator[str]:
     for section in problem.sections:
         kept = (it for it in section.words if not _is_left_out(it))
         words = [word.decode("utf-8", "surrogateescape") for word in kept]
-        if section.command is Section.STIPULATION:
+        if section.command == "Stipulation":
             words[1:] = [stipulation.text for _ in words[1:]]
         if len(words) > 1:
             yield " ".join(words)

@@ -8,7 +8,6 @@ from typing import NamedTuple, Optional
 from pops_companions.chess.men import Kind
 from pops_companions.sheet.entries import Entry, Part, index_of
 from pops_companions.sheet.languages import FIGURES, Language, marked_as
-from pops_companions.sheet.sheet_words import WORDS
 from pops_companions.show import diagram
 from pops_companions.show.authors import joined
 from pops_companions.show.page import STYLE, framed
@@ -73,7 +72,7 @@ class _Page:
             below = twins if entry.board else "".join(map(self._fault, entry.parts))
             yield f'<article id="problem-{entry.anchor}">\n<header>\n{"".join(self._names(entry))}'
             yield f'</header>\n<div>\n{"".join(self._diagram(entry))}{below}</div>\n</article>\n'
-        yield f'</div>\n<div class="after">\n<h2>{WORDS[self.language.code].solutions}</h2>\n'
+        yield f'</div>\n<div class="after">\n<h2>{self.language.solutions}</h2>\n'
         for entry in entries:
             parts = "".join(line for part in entry.parts for line in self._part(part))
             names = html.escape(joined(entry.authors))

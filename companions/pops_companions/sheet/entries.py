@@ -5,16 +5,14 @@ from collections.abc import Iterable, Iterator, Mapping, Sequence
 from dataclasses import dataclass
 from typing import Optional
 
-from pops_companions.chess.attacks import Men
 from pops_companions.input.given import GivenProblem
 from pops_companions.input.pieces import cut
 from pops_companions.input.reading import read_piece
 from pops_companions.report.items import AnyItem, Board, FaultyItem, SoundItem
 from pops_companions.report.tries import TriesItem
 from pops_companions.sheet.languages import Language
-from pops_companions.sheet.sheet_words import WORDS, SheetWords
 from pops_companions.sheet.solution import Block, Solution, TriesShown, shortened
-from pops_companions.sheet.twin_changes import Placed, change_of
+from pops_companions.sheet.twin_changes import change_of
 from pops_companions.show.authors import Person, persons
 from pops_companions.show.diagram import numbers_of_men
 from pops_companions.show.titles import printable, shown
@@ -111,7 +109,7 @@ class Sheet:
             "" if group.title is None else printable(group.title),
             "" if origin is None else self.language.dated(self._text(origin)),
             award,
-            WORDS[self.language.code].asked(_asked(group)),
+            self.language.asked(_asked(group)),
             self.boards.get(group.first.number),
             tuple(parts),
         )
@@ -129,20 +127,17 @@ class Sheet:
 
     def _parts(self, group: Group) -> Iterator[Part]:
         """Yields the solution of each twin."""
-        placed = [Placed(twin, self._men(twin)) for twin in group.twins]
-        words = WORDS[self.language.code]
-        for place, one in enumerate(placed):
-            heading = "" if group.is_alone else one.twin.label.text
-            if place > 0:
-                change = change_of(one, placed[0], placed[place - 1], words)
+        first = before = group.twins[0]
+        for twin in group.twins:
+            heading = "" if group.is_alone else twin.label.text
+            if twin is not first:
+                change = change_of(twin, first, before, self.boards, self.language)
                 heading = f"{heading} {change}".rstrip()
-            yield self._part(one.twin.item, printable(heading), words)
+            yield self._part(twin.item, printable(heading))
+            before = twin
 
-    def _men(self, twin: Twin) -> Optional[Men]:
-        board = self.boards.get(twin.item.number)
-        return None if board is None else board.men
-
-    def _part(self, item: AnyItem, heading: str, words: SheetWords) -> Part:
+    def _part(self, item: AnyItem, heading: str) -> Part:
+        words = self.language
         if isinstance(item, FaultyItem):
             return Part(heading, (), words.line.format(item.fault.line, words.fault(item.fault)))
         board = self.boards.get(item.number)

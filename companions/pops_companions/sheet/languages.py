@@ -5,7 +5,10 @@ from collections.abc import Mapping
 from typing import NamedTuple
 
 from pops_companions.chess.men import FAIRY_KINDS, Colour, Kind
+from pops_companions.explain.fault_texts import fault_texts
 from pops_companions.import_.origins import MONTHS
+from pops_companions.input.reading import FaultKind
+from pops_companions.report.items import Fault
 from pops_companions.stored import stored
 
 # The men of a line before it is put into letters or figures: characters of private use.
@@ -21,10 +24,13 @@ class Language(NamedTuple):
     """A language: its code, letters in the order of Kind, letters of the colours, and words.
 
     `sides` are White and Black in a list of men, `no_men` says that a side has none. `day` is how a
-    day is written before its month.
+    day is written before its month. `{}` in a text is for what it speaks of. `conditions` are their
+    names by the words of pops. `continued` comes before the changes of a twin that are made to the
+    twin before it.
     """
 
     code: str
+    faults: Mapping[FaultKind, str]
     letters: str
     colours: str
     sides: tuple[str, str]
@@ -43,6 +49,18 @@ class Language(NamedTuple):
     fairy_names: tuple[str, ...]
     day: str
     months: str
+    line: str
+    unfinished: str
+    not_in_report: str
+    left_out: str
+    solutions: str
+    reversed: str
+    rotated: str
+    mirrored: str
+    shifted: str
+    exchanged: str
+    continued: str
+    conditions: Mapping[str, str]
 
     @property
     def fairy_men(self) -> Mapping[Kind, str]:
@@ -61,9 +79,20 @@ class Language(NamedTuple):
     def man(self, kind: Kind) -> str:
         return self.letters[list(Kind).index(kind)]
 
+    def fault(self, fault: Fault) -> str:
+        """Returns the text of a fault; what the report says of one that pops doesn't have."""
+        kind = next((it for it in FaultKind if it.value == fault.number), None)
+        return fault.text if kind is None else self.faults[kind]
+
+    def asked(self, text: str) -> str:
+        """Returns a stipulation, with its condition in this language."""
+        stipulation, blank, condition = text.partition(" ")
+        return stipulation + blank + self.conditions.get(condition, condition)
+
 
 LANGUAGES: Mapping[str, Language] = {
-    code: Language(code=code, **words) for code, words in stored("sheet/languages.json").items()
+    code: Language(code=code, faults=fault_texts(code), **words)
+    for code, words in stored("sheet/languages.json").items()
 }
 
 

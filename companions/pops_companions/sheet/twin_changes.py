@@ -1,15 +1,13 @@
 """What makes a twin, as magazines print it: `Ra1→b2`, `–Pc3`, `+bQd4`, `Sa1↔Bb2`, `h#3`."""
 
 import re
-from collections.abc import Iterator
-from dataclasses import dataclass
+from collections.abc import Iterator, Mapping
 from typing import Optional
 
 from pops_companions.chess.attacks import Men
 from pops_companions.chess.men import Changes, Man, Square
-from pops_companions.report.items import AnyItem, SoundItem
-from pops_companions.sheet.languages import COLOUR_MARKS, MARKS
-from pops_companions.sheet.sheet_words import SheetWords
+from pops_companions.report.items import AnyItem, Board, SoundItem
+from pops_companions.sheet.languages import COLOUR_MARKS, MARKS, Language
 from pops_companions.show.twins import Twin
 
 # With more changes a twin is shown as the input says it.
@@ -21,32 +19,27 @@ _EXCHANGED = re.compile(r"\bPolishType\b", re.IGNORECASE)
 _CONTINUED = re.compile(r"\bContinued\b", re.IGNORECASE)
 
 
-@dataclass(frozen=True)
-class Placed:
-    """A twin with its men, if they are known."""
-
-    twin: Twin
-    men: Optional[Men]
-
-
-def change_of(placed: Placed, first: Placed, before: Placed, words: SheetWords) -> str:
+def change_of(
+    twin: Twin, first: Twin, before: Twin, boards: Mapping[int, Board], words: Language
+) -> str:
     """Returns what makes a twin of the first one, or of the one before it, if it goes on from there.
 
     Men are marked as in lines. What isn't known is as the input says it.
     """
-    said = placed.twin.change
-    if placed.twin.label.is_duplex:
+    said = twin.change
+    if twin.label.is_duplex:
         return words.reversed
     is_continued = _CONTINUED.search(said) is not None
     found, rest = _of_board(_CONTINUED.sub("", said), words)
     if found and rest.strip(" ,"):
         return said
     base = before if is_continued else first
-    if not found and placed.men is not None and base.men is not None:
-        found = list(_of_men(base.men, placed.men))
+    board, of_base = boards.get(twin.item.number), boards.get(base.item.number)
+    if not found and board is not None and of_base is not None:
+        found = list(_of_men(of_base.men, board.men))
         if len(found) > _MOST_CHANGES:
             return said
-    asked, asked_before = _asked(placed.twin.item), _asked(base.twin.item)
+    asked, asked_before = _asked(twin.item), _asked(base.item)
     if asked is not None and asked_before is not None and asked != asked_before:
         found.append(words.asked(asked))
     if not found:
@@ -58,7 +51,7 @@ def _asked(item: AnyItem) -> Optional[str]:
     return item.asked if isinstance(item, SoundItem) else None
 
 
-def _of_board(said: str, words: SheetWords) -> tuple[list[str], str]:
+def _of_board(said: str, words: Language) -> tuple[list[str], str]:
     """Returns the changes of the whole board, and what else is said."""
     found: list[str] = []
     for pattern, text, sign in (

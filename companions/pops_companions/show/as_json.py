@@ -4,7 +4,6 @@ import json
 import re
 from enum import Enum
 from functools import lru_cache
-from pathlib import Path
 from typing import Any, Optional, Union
 
 from pops_companions.chess.stipulation import Stipulation
@@ -13,6 +12,7 @@ from pops_companions.report import events, items
 from pops_companions.report.moves import PlayedMove
 from pops_companions.report.tries import AnyTriesItem, FirstMove, TriesItem
 from pops_companions.show.titles import shown
+from pops_companions.stored import stored
 
 Json = dict[str, Any]
 _REFERENCE = re.compile(r'"#/\$defs/(\w+)"')
@@ -28,18 +28,13 @@ class Form(Enum):
 
 def schema(form: Form) -> Json:
     """Returns the JSON Schema of an object, with all that it refers to."""
-    made = _stored(form)
-    shared = {**_stored(Form.ITEM)["$defs"], **_stored(Form.TRIES)["$defs"]}
+    made: Json = stored(f"show/{form.value}.schema.json")
+    item, tries = (stored(f"show/{it.value}.schema.json") for it in (Form.ITEM, Form.TRIES))
+    shared = {**item["$defs"], **tries["$defs"]}
     own: Json = made["$defs"]
     while lacking := set(_REFERENCE.findall(json.dumps(made))) - set(own):
         own.update((name, shared[name]) for name in sorted(lacking))
     return made
-
-
-def _stored(form: Form) -> Json:
-    path = Path(__file__).with_name(f"{form.value}.schema.json")
-    stored: Json = json.loads(path.read_text("utf-8"))
-    return stored
 
 
 def item_object(
