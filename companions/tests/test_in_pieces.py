@@ -4,7 +4,7 @@ import os
 import signal
 from contextlib import contextmanager, suppress
 from itertools import product
-from typing import Iterator
+from typing import TYPE_CHECKING, Any, Iterator
 from unittest import mock
 
 from pops_companions.many import forked
@@ -12,6 +12,9 @@ from pops_companions.report import reader
 from pops_companions.report.reader import ReportReader
 from pops_companions.review import in_pieces, judging
 from tests import run_here, support
+
+if TYPE_CHECKING:
+    from multiprocessing.connection import Connection
 
 RANKS = b".......k ........ ........ ........ ........ ........ ........ RR......".split()
 BOARD = b"".join(b"%d %s\n" % (8 - place, rank) for place, rank in enumerate(RANKS)) + b"  abcdefgh\n"
@@ -102,7 +105,7 @@ class InPieces(support.InRoom):
         whole = run_here.companion("pops-test", str(self.file))
         work_off = forked._work_off
 
-        def ended(work: forked.Work, given: int, written: int) -> None:
+        def ended(work: forked.Work, pieces: "Connection[Any, Any]") -> None:
             """Ends the copy at its third piece."""
             left = [None, None]
 
@@ -112,7 +115,7 @@ class InPieces(support.InRoom):
                 left.pop()
                 return work(piece)
 
-            work_off(some, given, written)
+            work_off(some, pieces)
 
         with pieces_of(1), mock.patch.object(forked, "_work_off", ended):
             self.assertEqual(run_here.companion("pops-test", str(self.file)), whole)
