@@ -63,6 +63,13 @@ class CommandError(Exception):
         self.status = status
 
 
+class DeviceError(CommandError):
+    """A program, a file or a machine fails, with the reason: it ends a companion that doesn't heed it."""
+
+    def __init__(self, message: str):
+        super().__init__(Status.DEVICE, message)
+
+
 class _HelpFormatter(argparse.RawDescriptionHelpFormatter):
     """Help as wide as the terminal. argparse looks for the width at each option."""
 

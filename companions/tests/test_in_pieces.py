@@ -4,7 +4,8 @@ import os
 import signal
 from contextlib import contextmanager, suppress
 from itertools import product
-from typing import TYPE_CHECKING, Any, Iterator
+from multiprocessing.connection import Connection
+from typing import Iterator
 from unittest import mock
 
 from pops_companions.many import forked
@@ -12,9 +13,6 @@ from pops_companions.report import reader
 from pops_companions.report.reader import ReportReader
 from pops_companions.review import in_pieces, judging
 from tests import run_here, support
-
-if TYPE_CHECKING:
-    from multiprocessing.connection import Connection
 
 RANKS = b".......k ........ ........ ........ ........ ........ ........ RR......".split()
 BOARD = b"".join(b"%d %s\n" % (8 - place, rank) for place, rank in enumerate(RANKS)) + b"  abcdefgh\n"
@@ -105,7 +103,7 @@ class InPieces(support.InRoom):
         whole = run_here.companion("pops-test", str(self.file))
         work_off = forked._work_off
 
-        def ended(work: forked.Work, pieces: "Connection[Any, Any]") -> None:
+        def ended(work: forked.Work, pieces: Connection) -> None:
             """Ends the copy at its third piece."""
             left = [None, None]
 

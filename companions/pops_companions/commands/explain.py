@@ -22,7 +22,7 @@ from pops_companions.explain.showing import Shower
 from pops_companions.input.pieces import cut
 from pops_companions.input.words import Span
 from pops_companions.many.fault_places import places_of
-from pops_companions.many.program import LOOKED_FOR, MissingError, RunError
+from pops_companions.many.program import LOOKED_FOR, MissingError
 from pops_companions.report.items import Item
 from pops_companions.report.reader import ReportError, read_report
 from pops_companions.show.titles import printable
@@ -108,7 +108,7 @@ def checked(text: bytes, named: Optional[str]) -> Checked:
         return Checked(result.text, places_of(text, engine.program) if is_faulty else {})
     except MissingError as error:
         raise CommandError(Status.DEVICE, f"{error}; or give REPORT") from None
-    except (RunError, ReportError) as error:
+    except ReportError as error:
         raise CommandError(Status.DEVICE, str(error)) from None
 
 

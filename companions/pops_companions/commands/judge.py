@@ -11,7 +11,7 @@ from pops_companions.command import STANDARD_INPUT, CommandError, Status, flag, 
 from pops_companions.input.given import given_problems
 from pops_companions.files import is_device
 from pops_companions.input.given_source import refuse_other_text
-from pops_companions.many.program import LOOKED_FOR, MissingError, find
+from pops_companions.many.program import LOOKED_FOR, find
 from pops_companions.many.tries_program import TRIES_LOOKED_FOR, find_tries
 from pops_companions.report.source import opened_unfinished_report
 from pops_companions.review.beside import Beside
@@ -63,11 +63,8 @@ class Settings(
 
 def runs_of(settings: Settings) -> Runs:
     """Returns the programs, and how they are run."""
-    try:
-        pops = find(settings.pops)
-        tries = find_tries(settings.pops_tries, pops)
-    except MissingError as error:
-        raise CommandError(Status.DEVICE, str(error)) from None
+    pops = find(settings.pops)
+    tries = find_tries(settings.pops_tries, pops)
     return Runs(pops, tries, settings.jobs, settings.seconds or None)
 
 

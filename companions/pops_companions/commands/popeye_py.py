@@ -17,7 +17,7 @@ from pops_companions.import_.posing import Posed, posed
 from pops_companions.import_.sources import read_drafts
 from pops_companions.import_.words import Unreadable
 from pops_companions.input.writing import text_of_problems
-from pops_companions.many.program import LOOKED_FOR, MissingError, RunError
+from pops_companions.many.program import LOOKED_FOR, RunError
 from pops_companions.many.tries_program import TRIES_LOOKED_FOR
 from pops_companions.report.items import FaultyItem, Node, Phase, SoundItem
 from pops_companions.report.reader import ReportError
@@ -195,6 +195,6 @@ def main(words: list[str]) -> Status:
             for draft in drafts_of(file)
             for one in posed(draft)
         ]
-    except (MissingError, RunError, ReportError) as error:
+    except ReportError as error:
         raise CommandError(Status.DEVICE, str(error)) from None
     return max(statuses, default=Status.GOOD)

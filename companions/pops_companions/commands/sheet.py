@@ -22,7 +22,7 @@ from pops_companions.many.child_process import (
     refuse_unlisted,
     wrote_more,
 )
-from pops_companions.many.program import LOOKED_FOR, MissingError, find
+from pops_companions.many.program import LOOKED_FOR, find
 from pops_companions.many.tries_program import TRIES_LOOKED_FOR, TriesProgram, find_tries
 from pops_companions.report.items import AnyItem, Board, FaultyItem, HeadlessItem, SoundItem
 from pops_companions.report.reader import ReportError, read_unfinished_report
@@ -153,7 +153,7 @@ class Texts:
         named = self._settings.report
         try:
             if named is None:
-                return self._solving.items(self._pops())
+                return self._solving.items(find(self._settings.pops))
             return list(read_unfinished_report(io.BytesIO(command.read_all(named))))
         except ReportError as error:
             message = f"{named or 'the output of pops'} is no report of pops: {error}"
@@ -175,7 +175,8 @@ class Texts:
 
     def _solved_tries(self, items: list[AnyItem]) -> dict[int, TriesItem]:
         """Returns what pops-tries shows of the items of battle play."""
-        program = self._tries_program()
+        named = self._settings.pops_tries
+        program = find_tries(named, "" if named else find(self._settings.pops))
         if program is None:
             print(f"{NAME}: pops-tries isn't installed: threats and tries aren't shown", file=sys.stderr)
             return {}
@@ -187,19 +188,6 @@ class Texts:
             said = f"its tries and threats took longer than {self._settings.seconds:g} s"
             print(f"{NAME}: problem {number}: {said}", file=sys.stderr)
         return found
-
-    def _pops(self) -> str:
-        try:
-            return find(self._settings.pops)
-        except MissingError as error:
-            raise CommandError(Status.DEVICE, str(error)) from None
-
-    def _tries_program(self) -> Optional[str]:
-        pops = "" if self._settings.pops_tries else self._pops()
-        try:
-            return find_tries(self._settings.pops_tries, pops)
-        except MissingError as error:
-            raise CommandError(Status.DEVICE, str(error)) from None
 
 
 def with_missing(items: list[AnyItem], given: list[GivenProblem]) -> list[AnyItem]:

@@ -12,13 +12,11 @@ from concurrent.futures import Future, ThreadPoolExecutor
 from contextlib import suppress
 from functools import partial
 from multiprocessing import Pipe
+from multiprocessing.connection import Connection
 from queue import SimpleQueue
-from typing import TYPE_CHECKING, Any, Optional
+from typing import Optional
 
 from pops_companions.many.child_process import killed_with_holder, pipe_of_others
-
-if TYPE_CHECKING:
-    from multiprocessing.connection import Connection
 
 _SIGNALS = (signal.SIGINT, signal.SIGTERM, signal.SIGHUP)
 # The pieces for each copy that may be done before an earlier one is.
@@ -97,7 +95,7 @@ def _forked(serve: Callable[[], None]) -> int:
         signal.pthread_sigmask(signal.SIG_SETMASK, before)
 
 
-def _serve(work: Work, watched: int, pieces: "Connection[Any, Any]", copies: list[_Copy]) -> None:
+def _serve(work: Work, watched: int, pieces: Connection, copies: list[_Copy]) -> None:
     """Does the work of a copy. (It has the handles of the others, which would keep them.)"""
     for copy in copies:
         copy.close()
@@ -110,7 +108,7 @@ def _serve(work: Work, watched: int, pieces: "Connection[Any, Any]", copies: lis
         _work_off(work, pieces)
 
 
-def _work_off(work: Work, pieces: "Connection[Any, Any]") -> None:
+def _work_off(work: Work, pieces: Connection) -> None:
     """Does the work on each piece, until there is none."""
     with suppress(EOFError, OSError):
         while True:
@@ -131,8 +129,10 @@ class Copies:
         self._left = len(self._copies)
         # The copies without a piece; None once all have ended.
         self._idle: SimpleQueue[Optional[_Copy]] = SimpleQueue()
-        for copy in self._copies or [None]:
+        for copy in self._copies:
             self._idle.put(copy)
+        if not self._copies:
+            self._idle.put(None)
         self._lock = threading.Lock()
         self._threads = ThreadPoolExecutor(max(self._left, 1))
 

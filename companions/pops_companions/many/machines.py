@@ -20,7 +20,7 @@ from typing import Optional
 from pops_companions import places
 from pops_companions.input.words import short_forms
 from pops_companions.many.bundles import items_in, neighbours, text_of
-from pops_companions.many.parallel import Ended, Jobs, Parallel, machine_of
+from pops_companions.many.parallel import Ended, Jobs, MachinesError, Parallel, machine_of
 from pops_companions.many.part_program import PartProgram
 from pops_companions.many.parts import Part
 from pops_companions.many.program import FAULTY, SOUND, Program, RunError
@@ -82,10 +82,6 @@ _STIPULATION = re.compile(
 )
 # The most half-moves of a small problem, by who helps whom.
 _MOST_HALF_MOVES = {b"": 5, b"s": 4, b"h": 5}
-
-
-class MachinesError(Exception):
-    """Other machines can't be used at all, with the reason."""
 
 
 def coded(text: bytes) -> str:
@@ -286,15 +282,12 @@ class _Probe:
 
 
 def _wanted_of(pops: Program, parts: Optional[PartProgram]) -> list[bytes]:
-    """Returns what the programs here report of the probe. MachinesError where one fails."""
-    try:
-        wanted = [pops.report(PROBE)]
-        if parts is not None:
-            task = tasks_of([Source(None, PROBE)])[0]
-            wanted.append(parts.report(Part(task, "play", 1, parts.depth)))
-        return wanted
-    except RunError as error:
-        raise MachinesError(str(error)) from None
+    """Returns what the programs here report of the probe. RunError where one fails."""
+    wanted = [pops.report(PROBE)]
+    if parts is not None:
+        task = tasks_of([Source(None, PROBE)])[0]
+        wanted.append(parts.report(Part(task, "play", 1, parts.depth)))
+    return wanted
 
 
 class Machines:
@@ -312,7 +305,7 @@ class Machines:
         """Probes each machine, and leaves out those that fail. `names` are the ones of the programs there:
         of pops, and of pops-part where it is needed.
 
-        MachinesError where no machine is left, or a program here fails.
+        MachinesError where no machine is left, RunError where a program here fails.
         """
         self._say = say
         self._parallel = parallel

@@ -17,6 +17,7 @@ from collections.abc import Callable, Iterable, Iterator, Sequence
 from pathlib import Path
 from typing import IO, NamedTuple, Optional
 
+from pops_companions.command import DeviceError
 from pops_companions.many import sessions
 from pops_companions.many.child_process import (
     MOST_OUTPUT,
@@ -66,8 +67,8 @@ exit "$status"
 """
 
 
-class ParallelError(Exception):
-    """GNU parallel can't be used, with the reason."""
+class MachinesError(DeviceError):
+    """Other machines can't be used, with the reason."""
 
 
 class Jobs(NamedTuple):
@@ -127,11 +128,11 @@ class Parallel:
     """GNU parallel, with `jobs` jobs at a time on each machine."""
 
     def __init__(self, jobs: Optional[int], ssh: Optional[str], say: Callable[[str], None]):
-        """Finds GNU parallel. ParallelError where it isn't installed: another program has its name."""
+        """Finds GNU parallel. MachinesError where it isn't installed: another program has its name."""
         self._say = say
         parallel = shutil.which("parallel")
         if parallel is None or not _is_gnu(parallel):
-            raise ParallelError("--sshlogin needs GNU parallel: install Debian's package parallel")
+            raise MachinesError("--sshlogin needs GNU parallel: install Debian's package parallel")
         self.jobs = jobs
         self._words = [parallel, "--plain", "--will-cite", "--line-buffer"]
         self._words += ["--jobs", str(jobs)] if jobs else []

@@ -8,7 +8,8 @@ from typing import Optional
 from pops_companions.many.batches import Batch, Batches
 from pops_companions.many.journal import Journal
 from pops_companions.many.local import TRIES, in_threads
-from pops_companions.many.machines import Machines, MachinesError
+from pops_companions.many.machines import Machines
+from pops_companions.many.parallel import MachinesError
 from pops_companions.many.part_program import PartProgram
 from pops_companions.many.parts import Key, Part, PartsError, head_of, limit_of
 from pops_companions.many.program import SOUND, Program, RunError

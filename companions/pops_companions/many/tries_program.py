@@ -5,7 +5,7 @@ from pathlib import Path
 from typing import Optional
 
 from pops_companions import places
-from pops_companions.many.program import FAULTY, SOUND, RunError, Runs, named_program
+from pops_companions.many.program import FAULTY, SOUND, RunError, Runs, first_found
 from pops_companions.many.tasks import is_whole
 
 TRIES_LOOKED_FOR = (
@@ -18,12 +18,10 @@ def find_tries(named: Optional[str], pops: str) -> Optional[str]:
 
     MissingError where the one that is named is nowhere.
     """
-    if found := named_program(named, "POPS_TRIES"):
-        return found
     beside = Path(pops).resolve().parent
     built = beside.parent.parent / "pops_tries" / "out" / "pops_tries"
-    beside_or_built = (str(beside / "pops-tries"), str(built), "pops-tries")
-    return next(filter(None, map(places.found, beside_or_built)), None)
+    others = (str(beside / "pops-tries"), str(built), "pops-tries")
+    return first_found("pops-tries", named, map(places.found, others))
 
 
 class TriesProgram(Runs):
