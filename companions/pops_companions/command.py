@@ -451,6 +451,16 @@ def opened(file: Optional[str]) -> Iterator[BinaryIO]:
         yield source
 
 
+def name_of(file: Optional[str]) -> str:
+    """Returns an input as messages name it."""
+    return "standard input" if file in (None, STANDARD_INPUT) else str(file)
+
+
+def inputs_of(files: Sequence[str]) -> Sequence[Optional[str]]:
+    """Returns the inputs of a command line that names these files; None is standard input."""
+    return list(files) or [None]
+
+
 def note_read(file: Union[str, int]) -> None:
     """Notes that this run has a file, given by path or as open: it isn't written over."""
     status = os.stat(file)
@@ -469,8 +479,7 @@ def limited(source: BinaryIO, file: Optional[str]) -> Iterator[bytes]:
     while piece := source.read(_PIECE):
         left -= len(piece)
         if left < 0:
-            name = "standard input" if file in (None, STANDARD_INPUT) else file
-            message = f"{name} has more than {MOST_BYTES >> 20} MiB: cut it into several"
+            message = f"{name_of(file)} has more than {MOST_BYTES >> 20} MiB: cut it into several"
             raise CommandError(Status.DEVICE, message)
         yield piece
 
@@ -515,6 +524,12 @@ def try_out(file: Optional[str]) -> None:
             files.try_out(files.unfinished_name(real), real)
     except OSError as error:
         raise CommandError(Status.DEVICE, f"cannot write {file}: {error.strerror}") from None
+
+
+def write(file: Optional[str], data: bytes) -> None:
+    """Writes all of what a companion writes, as `written` does."""
+    with written(file) as target:
+        target.write(data)
 
 
 @contextmanager

@@ -91,11 +91,6 @@ class Checked(NamedTuple):
     places: Places
 
 
-def name_of(file: str) -> str:
-    """Returns a file as messages name it."""
-    return "standard input" if file == STANDARD_INPUT else file
-
-
 def checked(text: bytes, named: Optional[str]) -> Checked:
     """Returns what pops says of a text without solving it."""
     most = _MOST_FOR_A_TEXT + _MOST_FOR_A_BYTE * len(text)
@@ -204,7 +199,7 @@ def fix(file: str, text: bytes, force: bool) -> str:
 
 def main(words: list[str]) -> Status:
     settings = arguments(words)
-    name = name_of(settings.input)
+    name = command.name_of(settings.input)
     if settings.fix:
         command.refuse_shared([], [str(fixed_place(settings.input)), settings.output])
     text = command.read_all(settings.input)
@@ -222,7 +217,7 @@ def main(words: list[str]) -> Status:
                 report = io.BytesIO(said.report)
                 status = write(name, text, report, target, settings.all, said.places)
     except (ReportError, OtherText) as error:
-        source = "what pops said" if settings.report is None else name_of(settings.report)
+        source = "what pops said" if settings.report is None else command.name_of(settings.report)
         raise CommandError(Status.DEVICE, f"{source} is no report of {name}: {error}") from None
     if settings.fix:
         sys.stderr.write(fix(settings.input, text, settings.force))

@@ -49,7 +49,7 @@ def arguments(words: list[str]) -> Settings:
 def read(file: Optional[str], encoding: str) -> str:
     """Returns a text; lines that aren't in the encoding are read as Latin-1, and reported."""
     data = command.read_all(file)
-    other = other_lines(file or "standard input", data, encoding)
+    other = other_lines(command.name_of(file), data, encoding)
     if other:
         print(f"{NAME}: {other}", file=sys.stderr)
     return text_of(data, encoding)
@@ -80,7 +80,7 @@ def refuse_other_report(
 
 def main(words: list[str]) -> Status:
     settings = arguments(words)
-    name = settings.file or "standard input"
+    name = command.name_of(settings.file)
     try:
         reading = read_problems(read(settings.file, settings.encoding))
     except Unreadable as error:
@@ -98,6 +98,5 @@ def main(words: list[str]) -> Status:
             written = "".join(yaml_of(problems, items))
         else:
             written = text_of_problems(one.lines() for one in problems)
-        with command.written(settings.output) as target:
-            target.write(written.encode("utf-8", "replace"))
+        command.write(settings.output, written.encode("utf-8", "replace"))
     return Status.FAULTY if reading.left_out else Status.GOOD

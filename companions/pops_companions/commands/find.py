@@ -228,8 +228,7 @@ def find(collection: Collection, settings: Settings) -> Status:
     found = answers(collection, settings)
     if settings.output is not None:
         page = as_page(found, Path(settings.collection).stem)
-        with command.written(settings.output) as target:
-            target.write(page.encode("utf-8", "replace"))
+        command.write(settings.output, page.encode("utf-8", "replace"))
     for answer in found:
         sys.stdout.buffer.write(as_text(answer).encode("utf-8", "replace"))
     return Status.GOOD if any(answer.found for answer in found) else Status.FAULTY

@@ -68,13 +68,6 @@ def runs_of(settings: Settings) -> Runs:
     return Runs(pops, tries, settings.jobs, settings.seconds or None)
 
 
-def read_collection(name: str) -> bytes:
-    """Returns the text of a collection. CommandError where it doesn't begin as an input of pops."""
-    text = command.read_all(name)
-    refuse_other_text(name, text)
-    return text
-
-
 def folder_of(settings: Settings) -> Path:
     """Returns the folder that keeps what is done until all is."""
     return Path(settings.output + ".work")
@@ -106,10 +99,11 @@ def judgements_of(settings: Settings, work: Work, beside: Beside) -> list[Judged
 
 def judge(settings: Settings) -> Status:
     """Runs what is needed, writes the sheet and prints the verdicts."""
-    text = read_collection(settings.collection)
+    text = command.read_all(settings.collection)
+    refuse_other_text(settings.collection, text)
     refuse_sheet(settings.collection, settings.output)
     given = given_problems(text)
-    name = "standard input" if settings.collection == STANDARD_INPUT else settings.collection
+    name = command.name_of(settings.collection)
     work = Work(folder_of(settings), runs_of(settings), name)
     work.begin(text, settings.resume)
     work.solve()
@@ -126,8 +120,7 @@ def judge(settings: Settings) -> Status:
     heading = settings.heading or Path(name).stem
     evidence = Evidence(boards_of(text), tries, settings.encoding, most)
     page = sheet(tally.counted(judged), tally, heading, evidence)
-    with command.written(settings.output) as target:
-        target.write(page.encode("utf-8", "replace"))
+    command.write(settings.output, page.encode("utf-8", "replace"))
     for one in judged:
         print(as_text(one, settings.encoding, 0).split("\n")[0])
     print(tally.text)

@@ -237,7 +237,7 @@ class Solving:
         self._settings = settings
         self._options = ["--check"] * settings.check + ["--no-board"] * settings.no_board
         self._progress = Progress(NAME)
-        sources = [read_source(name, self._progress) for name in settings.inputs]
+        sources = [read_source(it, self._progress) for it in command.inputs_of(settings.files)]
         self._tasks = tasks_of(sources)
         say_of_rests(self._tasks.inputs, self._progress)
         settings.split = settings.split or is_cut_unasked(settings, self._tasks)

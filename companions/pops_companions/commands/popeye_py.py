@@ -165,7 +165,7 @@ def drafts_of(file: Optional[str]) -> list[Draft]:
     try:
         return read_drafts(text)
     except Unreadable as error:
-        name = file or "standard input"
+        name = command.name_of(file)
         message = f"{name}, line {error.message.line}: {error}"
         raise CommandError(Status.FAULTY, message) from None
 
@@ -186,12 +186,11 @@ def write(solver: Solver, draft: Draft, one: Posed) -> Status:
 
 def main(words: list[str]) -> Status:
     settings = Settings.read(words)
-    inputs: list[Optional[str]] = [*settings.files]
     try:
         solver = Solver(settings)
         statuses = [
             write(solver, draft, one)
-            for file in inputs or [None]
+            for file in command.inputs_of(settings.files)
             for draft in drafts_of(file)
             for one in posed(draft)
         ]

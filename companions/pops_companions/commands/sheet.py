@@ -175,8 +175,7 @@ class Texts:
 
     def _solved_tries(self, items: list[AnyItem]) -> dict[int, TriesItem]:
         """Returns what pops-tries shows of the items of battle play."""
-        named = self._settings.pops_tries
-        program = find_tries(named, "" if named else find(self._settings.pops))
+        program = find_tries(self._settings.pops_tries, self._settings.pops)
         if program is None:
             print(f"{NAME}: pops-tries isn't installed: threats and tries aren't shown", file=sys.stderr)
             return {}
@@ -292,7 +291,7 @@ def printed(words: list[str], room: str) -> Outcome:
     held = ["/bin/sh", "-c", 'read -r _ && exec "$@"', "sh", *words]
     refuse_unlisted(held[0])
     child = ChildProcess(held, subprocess.PIPE, subprocess.PIPE, environment)
-    with sessions.watched(child.run.pid, room):
+    with sessions.Watcher(child.run.pid, room):
         try:
             return child.outcome(b"\n")
         finally:
@@ -361,6 +360,5 @@ def main(words: list[str]) -> Status:
     entries = list(made.entries(found, settings.first_number, settings.apart))
     warn_of_short_lines(entries, tries)
     written = written_as(settings, entries)
-    with command.written(settings.output) as target:
-        target.write(written)
+    command.write(settings.output, written)
     return Status.GOOD if all(map(is_solved, items)) else Status.FAULTY

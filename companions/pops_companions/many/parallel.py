@@ -163,7 +163,7 @@ class Parallel:
             _write_logins(room, logins)
             child = self._started(room, jobs, self._connections.options if shared else "")
             is_stopped = threading.Event()
-            with sessions.watched(child.run.pid, name):
+            with sessions.Watcher(child.run.pid, name):
                 looks = threading.Thread(target=_look, args=(child, room, logins, look, is_stopped))
                 errors = threading.Thread(target=self._hear, args=(child,))
                 looks.start()

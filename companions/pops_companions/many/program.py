@@ -13,7 +13,6 @@ from pops_companions.command import DeviceError
 from pops_companions.many.bundle_run import BundleRun, Came
 from pops_companions.many.bundles import Bundles
 from pops_companions.many.child_process import (
-    MOST_OUTPUT,
     MOST_ROOM,
     MOST_SPOOLED,
     PAUSE,
