@@ -2,7 +2,6 @@
 
 import argparse
 import codecs
-import errno
 import gc
 import io
 import os
@@ -361,6 +360,8 @@ def number_in(first: int, last: Optional[int] = None) -> Callable[[str], int]:
 
 
 number_from_one = number_in(1)
+# How many programs may run at a time.
+jobs = number_in(1, MOST_JOBS)
 
 
 def seconds(text: str) -> float:
@@ -371,14 +372,6 @@ def seconds(text: str) -> float:
         number = -1.0
     if not 0 <= number <= MOST_SECONDS:
         raise argparse.ArgumentTypeError(f"{text!r} is no number from 0 to {MOST_SECONDS}")
-    return number
-
-
-def jobs(text: str) -> int:
-    """Reads how many programs may run at a time."""
-    number = number_from_one(text)
-    if number > MOST_JOBS:
-        raise argparse.ArgumentTypeError(f"{text!r} is more than {MOST_JOBS}")
     return number
 
 
@@ -516,12 +509,8 @@ def try_out(file: Optional[str]) -> None:
     if file is None:
         return
     _refuse_read(file)
-    real = os.path.realpath(file)
     try:
-        if os.path.isdir(real):
-            raise IsADirectoryError(errno.EISDIR, os.strerror(errno.EISDIR))
-        if not files.is_device(file):
-            files.try_out(files.unfinished_name(real), real)
+        files.try_out(file)
     except OSError as error:
         raise CommandError(Status.DEVICE, f"cannot write {file}: {error.strerror}") from None
 
