@@ -164,7 +164,7 @@ class Runs:
         self._words = list(words)
         self._running: set[ChildProcess] = set()
         self._lock = threading.Lock()
-        self._stopped = False
+        self.is_stopped = False
         # Looks whether the program is another one now.
         self.look: Callable[[], object] = lambda: None
 
@@ -177,7 +177,7 @@ class Runs:
     ) -> ChildProcess:
         """Starts it with more words."""
         with self._lock:
-            if self._stopped:
+            if self.is_stopped:
                 raise RunError("stopped")
             try:
                 refuse_unlisted(self._words[0])
@@ -255,7 +255,7 @@ class Runs:
     def stop(self) -> None:
         """Ends all runs at hand; later ones are refused."""
         with self._lock:
-            self._stopped = True
+            self.is_stopped = True
             for child in self._running:
                 child.kill()
 
