@@ -62,6 +62,7 @@ _PROGRAMS = ("pops", "pops-part")
 NO_REPORT_IN_TIME = "no report came back in {:g} s"
 _WITHOUT_LIMIT = "-"
 _STATUS_OUT_OF_TIME = 124
+_STATUS = re.compile(rb"[0-9]{1,3}")
 # The most problems of a login, and the fewest logins of each place.
 _PROBLEMS_AT_A_LOGIN = 20
 _LOGINS_OF_A_PLACE = 10
@@ -134,14 +135,22 @@ def seconds_of(logins: Sequence[Sequence[str]]) -> Optional[int]:
     return _SECONDS_OF_A_LOGIN + math.ceil(max((sum(map(float, it)) for it in limits), default=0.0))
 
 
-def _decoded(line: bytes) -> Optional[tuple[int, int, bytes]]:
-    """Returns number, status and report of a line that came back; None where it was cut."""
+def decoded(line: bytes) -> Optional[tuple[int, bytes]]:
+    """Returns the number and the text of a line that came back; None where it was cut."""
     number, _, text = line.rstrip(b"\n").partition(b" ")
     try:
-        report, _, ended = base64.b64decode(text, validate=True).rpartition(b"\n")
-        place, status = int(number), int(ended)
+        return int(number), base64.b64decode(text, validate=True)
     except (binascii.Error, ValueError):
         return None
+
+
+def _answer_of(line: bytes) -> Optional[tuple[int, int, bytes]]:
+    """Returns number, status and report of a line that came back; None where it was cut."""
+    place, text = decoded(line) or (0, b"")
+    report, _, ended = text.rpartition(b"\n")
+    if not _STATUS.fullmatch(ended):
+        return None
+    status = int(ended)
     return place, UNFINISHED if status == _STATUS_OUT_OF_TIME else status, report
 
 
@@ -203,7 +212,7 @@ class _Round:
 
     def take(self, line: bytes) -> None:
         """Takes a line that came back."""
-        answer = _decoded(line)
+        answer = _answer_of(line)
         if answer is None or answer[0] not in self._bundles or answer[0] in self.done:
             return
         place, status, report = answer
@@ -247,7 +256,7 @@ class _Probe:
     def take(self, line: bytes) -> None:
         """Takes a line that came back."""
         self._come += len(line)
-        answer = _decoded(line)
+        answer = _answer_of(line)
         if answer is not None:
             self._answers[answer[0]] = answer[1:]
 
