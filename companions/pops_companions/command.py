@@ -310,7 +310,7 @@ def _buffer_output() -> None:
     text, and not every encoding has all characters of a title.
     """
     if sys.stdout is None:
-        raise CommandError(Status.DEVICE, "standard output is closed")
+        raise DeviceError("standard output is closed")
     if isinstance(sys.stdout, io.TextIOWrapper) and not _takes_all(sys.stdout):
         sys.stdout.reconfigure(errors="backslashreplace")
     if not isinstance(sys.stdout.buffer, io.BufferedIOBase):
@@ -429,7 +429,7 @@ def opened(file: Optional[str]) -> Iterator[BinaryIO]:
     """Opens a file for its bytes, or standard input where no file is named, or `-`."""
     if file in (None, STANDARD_INPUT):
         if sys.stdin is None:
-            raise CommandError(Status.DEVICE, "standard input is closed")
+            raise DeviceError("standard input is closed")
         with suppress(io.UnsupportedOperation):
             note_read(sys.stdin.fileno())
         yield sys.stdin.buffer
@@ -438,7 +438,7 @@ def opened(file: Optional[str]) -> Iterator[BinaryIO]:
     try:
         source = open(file, "rb")
     except OSError as error:
-        raise CommandError(Status.DEVICE, f"cannot open {file}: {error.strerror}") from None
+        raise DeviceError(f"cannot open {file}: {error.strerror}") from None
     with source:
         note_read(source.fileno())
         yield source
@@ -473,7 +473,7 @@ def limited(source: BinaryIO, file: Optional[str]) -> Iterator[bytes]:
         left -= len(piece)
         if left < 0:
             message = f"{name_of(file)} has more than {MOST_BYTES >> 20} MiB: cut it into several"
-            raise CommandError(Status.DEVICE, message)
+            raise DeviceError(message)
         yield piece
 
 
@@ -512,7 +512,7 @@ def try_out(file: Optional[str]) -> None:
     try:
         files.try_out(file)
     except OSError as error:
-        raise CommandError(Status.DEVICE, f"cannot write {file}: {error.strerror}") from None
+        raise DeviceError(f"cannot write {file}: {error.strerror}") from None
 
 
 def write(file: Optional[str], data: bytes) -> None:
@@ -545,4 +545,4 @@ def written(
     except OSError as error:
         if begun:
             raise
-        raise CommandError(Status.DEVICE, f"cannot write {file}: {error.strerror}") from None
+        raise DeviceError(f"cannot write {file}: {error.strerror}") from None

@@ -4,7 +4,7 @@ import sys
 from typing import Optional
 
 from pops_companions import command
-from pops_companions.command import CommandError, Status, flag, option, word
+from pops_companions.command import DeviceError, Status, flag, option, word
 from pops_companions.export.problems import Exported, joined, read_problems
 from pops_companions.export.yaml_form import yaml_of
 from pops_companions.import_.words import Unreadable
@@ -71,8 +71,7 @@ def refuse_other_report(
         for _, problem, _ in one.parts:
             item = items.get(problem.number)
             if item is not None and item.stipulation.text != problem.stipulation:
-                raise CommandError(
-                    Status.DEVICE,
+                raise DeviceError(
                     f"{settings.report} isn't the report of the problems: problem {problem.number}"
                     f" is {item.stipulation.text} there, not {problem.stipulation}",
                 )
@@ -84,8 +83,7 @@ def main(words: list[str]) -> Status:
     try:
         reading = read_problems(read(settings.file, settings.encoding))
     except Unreadable as error:
-        message = f"{name}, line {error.message.line}: {error}"
-        raise CommandError(Status.DEVICE, message) from None
+        raise DeviceError(f"{name}, line {error.message.line}: {error}") from None
     for one in reading.left_out:
         print(f"{NAME}: {name}, {one.text}", file=sys.stderr)
     is_yaml = settings.to == "yaml"

@@ -7,7 +7,7 @@ from pathlib import Path
 from typing import Optional
 
 from pops_companions import command
-from pops_companions.command import STANDARD_INPUT, CommandError, Status, flag, option, word
+from pops_companions.command import CommandError, DeviceError, Status, flag, option, word
 from pops_companions.input.given import given_problems
 from pops_companions.files import is_device
 from pops_companions.input.given_source import refuse_other_text
@@ -75,7 +75,7 @@ def folder_of(settings: Settings) -> Path:
 
 def refuse_sheet(collection: str, sheet: str) -> None:
     """Refuses a sheet that is the collection or can't be written, before anything is solved."""
-    command.refuse_shared([collection] if collection != STANDARD_INPUT else [], [sheet])
+    command.refuse_shared([collection] if collection != command.STANDARD_INPUT else [], [sheet])
     if is_device(sheet) and not os.path.isdir(sheet):
         message = f"the sheet needs the name of a file, beside which its folder is: {sheet} is none"
         raise CommandError(Status.USAGE, message)
@@ -85,7 +85,7 @@ def refuse_sheet(collection: str, sheet: str) -> None:
         reason = os.strerror(errno.EACCES)
     else:
         return
-    raise CommandError(Status.DEVICE, f"cannot write {sheet}: {reason}")
+    raise DeviceError(f"cannot write {sheet}: {reason}")
 
 
 def judgements_of(settings: Settings, work: Work, beside: Beside) -> list[JudgedGroup]:

@@ -9,7 +9,7 @@ from itertools import chain
 from typing import TYPE_CHECKING, BinaryIO, Optional, Union
 
 from pops_companions import command
-from pops_companions.command import CommandError, Status
+from pops_companions.command import CommandError, DeviceError, Status
 from pops_companions.commands.many_options import (
     NAME,
     SPLIT_AFTER,
@@ -121,7 +121,7 @@ def open_journal(path: str, settings: Settings, origin: Origin, tasks: int) -> J
         return Journal(path, origin, settings.resume, tasks, settings.seconds)
     except OSError as error:
         what = "open" if settings.resume else "write"
-        raise CommandError(Status.DEVICE, f"cannot {what} {path}: {error.strerror}") from None
+        raise DeviceError(f"cannot {what} {path}: {error.strerror}") from None
 
 
 def name_of_run(journal: str, fingerprint: bytes) -> bytes:
@@ -163,9 +163,7 @@ def try_out(targets: Sequence[Target]) -> None:
         try:
             target.try_out()
         except OSError as error:
-            raise CommandError(
-                Status.DEVICE, f"cannot write {target.path}: {error.strerror}"
-            ) from None
+            raise DeviceError(f"cannot write {target.path}: {error.strerror}") from None
 
 
 def refuse_foreign(reports: Sequence[Report]) -> None:

@@ -10,7 +10,7 @@ from pops.engine import Engine
 from pops.run import Ending, Limits, Result
 from pops_companions import command
 from pops_companions.chess.stipulation import Play
-from pops_companions.command import CommandError, Status, option, word
+from pops_companions.command import DeviceError, Status, option, word
 from pops_companions.export import popeye_layout
 from pops_companions.import_.draft import Draft, Options
 from pops_companions.import_.posing import Posed, posed
@@ -166,8 +166,7 @@ def drafts_of(file: Optional[str]) -> list[Draft]:
         return read_drafts(text)
     except Unreadable as error:
         name = command.name_of(file)
-        message = f"{name}, line {error.message.line}: {error}"
-        raise CommandError(Status.DEVICE, message) from None
+        raise DeviceError(f"{name}, line {error.message.line}: {error}") from None
 
 
 def write(solver: Solver, draft: Draft, one: Posed) -> Status:
@@ -195,5 +194,5 @@ def main(words: list[str]) -> Status:
             for one in posed(draft)
         ]
     except ReportError as error:
-        raise CommandError(Status.DEVICE, str(error)) from None
+        raise DeviceError(str(error)) from None
     return max(statuses, default=Status.GOOD)
