@@ -7,6 +7,7 @@ import threading
 from collections.abc import Callable, Generator, Iterator, Sequence
 from contextlib import closing
 from typing import IO, NoReturn, Optional
+from weakref import WeakSet
 
 from pops_companions import places
 from pops_companions.command import DeviceError
@@ -162,7 +163,8 @@ class Runs:
     def __init__(self, name: str, words: Sequence[str]):
         self._name = name
         self._words = list(words)
-        self._running: set[ChildProcess] = set()
+        # (who has read a run to its end drops it, and then it is none of these)
+        self._running: WeakSet[ChildProcess] = WeakSet()
         self._lock = threading.Lock()
         self.is_stopped = False
         # Looks whether the program is another one now.
@@ -202,9 +204,6 @@ class Runs:
             return child.outcome(text, seconds, spooled_if)
         except OSError as error:
             raise OutputRunError(f"{self._name} was ended: {error.strerror}") from None
-        finally:
-            with self._lock:
-                self._running.discard(child)
 
     def outcome(
         self,
@@ -237,13 +236,9 @@ class Runs:
         pause: Callable[[], int] = lambda: PAUSE,
     ) -> Generator[bytes, None, None]:
         """Yields what a run writes, as `ChildProcess.pieces` does."""
-        try:
-            with closing(child.pieces(text, pause=pause)) as pieces:
-                for _, piece in pieces:
-                    yield piece
-        finally:
-            with self._lock:
-                self._running.discard(child)
+        with closing(child.pieces(text, pause=pause)) as pieces:
+            for _, piece in pieces:
+                yield piece
 
     def why(self, child: ChildProcess, errors: IO[bytes]) -> str:
         """Returns why a run that was begun failed, with the first of what it said."""
@@ -290,15 +285,11 @@ class Program(Runs):
     def solve_bundle(self, bundle: Sequence[Task], bundles: Bundles) -> Came:
         """Runs a bundle in one process; what it doesn't solve goes back to the bundles."""
         child = self._started([], subprocess.PIPE, subprocess.DEVNULL)
-        try:
-            if len(self._running) <= _MOST_WITH_ROOM:
-                has_room(child.run.stdout, MOST_ROOM)
-            if self.seconds is not None:
-                child.limit(self.seconds * len(bundle))
-            return BundleRun(child, bundle, self.seconds, bundles).go()
-        finally:
-            with self._lock:
-                self._running.discard(child)
+        if len(self._running) <= _MOST_WITH_ROOM:
+            has_room(child.run.stdout, MOST_ROOM)
+        if self.seconds is not None:
+            child.limit(self.seconds * len(bundle))
+        return BundleRun(child, bundle, self.seconds, bundles).go()
 
     def told_anew(self, task: Task, status: int, report: bytes) -> Result:
         """Returns the result of a first run; for the line of a fault it runs the problem again, here.
