@@ -9,7 +9,7 @@ import threading
 from collections import deque
 from collections.abc import Callable, Iterator
 from concurrent.futures import Future, ThreadPoolExecutor
-from contextlib import suppress
+from contextlib import ExitStack, suppress
 from functools import partial
 from multiprocessing import Pipe
 from multiprocessing.connection import Connection
@@ -37,17 +37,16 @@ class _Copy:
 
     def __init__(self, work: Work, others: "list[_Copy]"):
         """Makes the copy. OSError where none can be made."""
-        watched, self._held = pipe_of_others()
-        self._pieces, its_own = Pipe()
         self._is_over = False
-        try:
-            self._process = _forked(partial(_serve, work, watched, its_own, [self, *others]))
-        except BaseException:
-            self.close()
-            raise
-        finally:
-            os.close(watched)
-            its_own.close()
+        with ExitStack() as own, ExitStack() as handed:
+            watched, self._held = pipe_of_others()
+            own.callback(os.close, self._held)
+            handed.callback(os.close, watched)
+            self._pieces, given = Pipe()
+            own.callback(self._pieces.close)
+            handed.callback(given.close)
+            self._process = _forked(partial(_serve, work, watched, given, [self, *others]))
+            own.pop_all()
 
     def close(self) -> None:
         """Closes this process's ends of the pipes, the first of which ends the copy."""
