@@ -665,7 +665,7 @@ class Robustness(unittest.TestCase):
                 else:
                     parts.insert(place, chance.choice(words.split() + [" ", "\n"]))
             made = imported_text("".join(parts).encode("utf-8"))
-            self.assertIn(made.status, (0, 1))
+            self.assertIn(made.status, (0, 1, 3))
             if made.output:
                 outputs.append(made.output)
             self.assertTrue(made.output or made.told)

@@ -640,6 +640,8 @@ class Judging(support.InRoom):
             (f"{self.room}/nowhere/sheet.html", 3, "cannot write"),
             (f"{self.room}/nowhere/new/sheet.html", 3, "cannot write"),
             (f"{self.text}/sheet.html", 3, "cannot write"),
+            # (its folder's name is too long)
+            (f"{self.room}/{252 * 'L'}", 3, "File name too long"),
         ):
             outcome = self.judged("-o", sheet, pops=fails)
             self.assertEqual((outcome.status, outcome.output), (status, b""))
