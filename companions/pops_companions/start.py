@@ -31,7 +31,7 @@ class Companion:
 
     def _run(self) -> None:
         # (with too little memory, modules of Python write what they couldn't load)
-        errors, sys.stderr = sys.stderr, None  # type: ignore[assignment]
+        errors, sys.stderr = sys.stderr, _Unheard()  # type: ignore[assignment]
         try:
             from importlib import import_module
 
@@ -51,6 +51,16 @@ def _end_by_interrupts() -> None:
         except ValueError:
             # (not in the main thread, which alone hears of it)
             pass
+
+
+class _Unheard:
+    """A stream that drops what is written to it."""
+
+    def write(self, text: str) -> int:
+        return len(text)
+
+    def flush(self) -> None:
+        pass
 
 
 def _end(message: str, status: int) -> None:

@@ -630,14 +630,14 @@ class ManyReasons(unittest.TestCase):
         self.assertNotIn("more", few)
         many = self.told("Array " * 2700)
         self.assertTrue(many.startswith("pops-import: standard input, line 2, problem 1: left out: two men"))
-        # (an array has 32 men, of which 30 stand on empty squares the first time)
+        # (an array has 32 men; the first one fills 30 empty squares)
         self.assertTrue(many.endswith(f"; and {2700 * 32 - 30 - 100} more\n"), many[-50:])
         self.assertLess(len(many), 4000)
 
     def test_notes(self) -> None:
         many = self.told("", *["Option Try"] * 2000).splitlines()
         self.assertEqual(len(many), 101)
-        self.assertTrue(many[-1].endswith(", line 103, problem 1: and 1900 more"), many[-1])
+        self.assertTrue(many[-1].endswith(", line 104, problem 1: and 1900 more"), many[-1])
 
 
 class WithoutPyYaml(unittest.TestCase):

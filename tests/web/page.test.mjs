@@ -13,7 +13,7 @@ fill({ ...sharedParts(), example: TEXT, 'fault-words': '{"8": "what the manual s
 const { choreDone } = await import('../../web/chores.js');
 const { comparisonOf } = await import('../../web/compared.js');
 const { Board } = await import('../../web/board.js');
-const { element, makeButton, madeWith, partText } = await import('../../web/elements.js');
+const { element, LONGEST_SHOWN, makeButton, madeWith, partText } = await import('../../web/elements.js');
 const { faultBox } = await import('../../web/faults.js');
 const { makeProblem, move, solveFromHere } = await import('../../web/line.js');
 const { Notes } = await import('../../web/notes.js');
@@ -392,6 +392,12 @@ test('a text that is too long for the page is refused in fields and where it is 
   assert.equal(prevented('drop', element('text'), lines), 1);
   assert.equal(textNow().length, TEXT.length + lines.length);
   assert.ok(element('text').value.length < lines.length);
+});
+
+test('notes: of a long one the beginning is shown', () => {
+  views.note('x'.repeat(1 << 20));
+  assert.equal(element('note').textContent, `${'x'.repeat(LONGEST_SHOWN)}…`);
+  views.note('');
 });
 
 test('store: no link is made of a long text, which takes no time', () => {
