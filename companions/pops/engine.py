@@ -62,7 +62,7 @@ class Engine:
 
 
 def _tries_program(named: Optional[str]) -> str:
-    found = find_tries(named, "" if named else find(None))
+    found = find_tries(named, None)
     if found is None:
         raise MissingError("there is no program pops-tries: name it, or set $POPS_TRIES")
     return found

@@ -2,7 +2,6 @@
 
 import argparse
 import codecs
-import errno
 import gc
 import io
 import os
@@ -61,6 +60,13 @@ class CommandError(Exception):
     def __init__(self, status: Status, message: str):
         super().__init__(message)
         self.status = status
+
+
+class DeviceError(CommandError):
+    """A program, a file or a machine fails, with the reason: it ends a companion that doesn't heed it."""
+
+    def __init__(self, message: str):
+        super().__init__(Status.DEVICE, message)
 
 
 class _HelpFormatter(argparse.RawDescriptionHelpFormatter):
@@ -304,7 +310,7 @@ def _buffer_output() -> None:
     text, and not every encoding has all characters of a title.
     """
     if sys.stdout is None:
-        raise CommandError(Status.DEVICE, "standard output is closed")
+        raise DeviceError("standard output is closed")
     if isinstance(sys.stdout, io.TextIOWrapper) and not _takes_all(sys.stdout):
         sys.stdout.reconfigure(errors="backslashreplace")
     if not isinstance(sys.stdout.buffer, io.BufferedIOBase):
@@ -354,6 +360,8 @@ def number_in(first: int, last: Optional[int] = None) -> Callable[[str], int]:
 
 
 number_from_one = number_in(1)
+# How many programs may run at a time.
+jobs = number_in(1, MOST_JOBS)
 
 
 def seconds(text: str) -> float:
@@ -364,14 +372,6 @@ def seconds(text: str) -> float:
         number = -1.0
     if not 0 <= number <= MOST_SECONDS:
         raise argparse.ArgumentTypeError(f"{text!r} is no number from 0 to {MOST_SECONDS}")
-    return number
-
-
-def jobs(text: str) -> int:
-    """Reads how many programs may run at a time."""
-    number = number_from_one(text)
-    if number > MOST_JOBS:
-        raise argparse.ArgumentTypeError(f"{text!r} is more than {MOST_JOBS}")
     return number
 
 
@@ -429,7 +429,7 @@ def opened(file: Optional[str]) -> Iterator[BinaryIO]:
     """Opens a file for its bytes, or standard input where no file is named, or `-`."""
     if file in (None, STANDARD_INPUT):
         if sys.stdin is None:
-            raise CommandError(Status.DEVICE, "standard input is closed")
+            raise DeviceError("standard input is closed")
         with suppress(io.UnsupportedOperation):
             note_read(sys.stdin.fileno())
         yield sys.stdin.buffer
@@ -438,10 +438,20 @@ def opened(file: Optional[str]) -> Iterator[BinaryIO]:
     try:
         source = open(file, "rb")
     except OSError as error:
-        raise CommandError(Status.DEVICE, f"cannot open {file}: {error.strerror}") from None
+        raise DeviceError(f"cannot open {file}: {error.strerror}") from None
     with source:
         note_read(source.fileno())
         yield source
+
+
+def name_of(file: Optional[str]) -> str:
+    """Returns an input as messages name it."""
+    return "standard input" if file in (None, STANDARD_INPUT) else str(file)
+
+
+def inputs_of(files: Sequence[str]) -> Sequence[Optional[str]]:
+    """Returns the inputs of a command line that names these files; None is standard input."""
+    return list(files) or [None]
 
 
 def note_read(file: Union[str, int]) -> None:
@@ -462,9 +472,8 @@ def limited(source: BinaryIO, file: Optional[str]) -> Iterator[bytes]:
     while piece := source.read(_PIECE):
         left -= len(piece)
         if left < 0:
-            name = "standard input" if file in (None, STANDARD_INPUT) else file
-            message = f"{name} has more than {MOST_BYTES >> 20} MiB: cut it into several"
-            raise CommandError(Status.DEVICE, message)
+            message = f"{name_of(file)} has more than {MOST_BYTES >> 20} MiB: cut it into several"
+            raise DeviceError(message)
         yield piece
 
 
@@ -500,14 +509,16 @@ def try_out(file: Optional[str]) -> None:
     if file is None:
         return
     _refuse_read(file)
-    real = os.path.realpath(file)
     try:
-        if os.path.isdir(real):
-            raise IsADirectoryError(errno.EISDIR, os.strerror(errno.EISDIR))
-        if not files.is_device(file):
-            files.try_out(files.unfinished_name(real), real)
+        files.try_out(file)
     except OSError as error:
-        raise CommandError(Status.DEVICE, f"cannot write {file}: {error.strerror}") from None
+        raise DeviceError(f"cannot write {file}: {error.strerror}") from None
+
+
+def write(file: Optional[str], data: bytes) -> None:
+    """Writes all of what a companion writes, as `written` does."""
+    with written(file) as target:
+        target.write(data)
 
 
 @contextmanager
@@ -534,4 +545,4 @@ def written(
     except OSError as error:
         if begun:
             raise
-        raise CommandError(Status.DEVICE, f"cannot write {file}: {error.strerror}") from None
+        raise DeviceError(f"cannot write {file}: {error.strerror}") from None

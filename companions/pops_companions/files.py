@@ -125,14 +125,22 @@ def restrict(handle: int, path: str) -> None:
             os.fchmod(handle, stat.S_IMODE(os.fstat(handle).st_mode & before.st_mode))
 
 
-def try_out(unfinished: str, real: str) -> None:
-    """Makes and removes a file of this name. OSError where none can be made, or take the name of the
-    one that is to be written.
+def try_out(
+    path: str, unfinished: Optional[str] = None, links: Links = Links.FOLLOWED
+) -> None:
+    """Makes and removes a file as `written_whole` does. OSError where none can be made, or take the name
+    of the one that is to be written.
     """
+    real = real_of(path, links)
+    if os.path.isdir(real):
+        raise IsADirectoryError(errno.EISDIR, os.strerror(errno.EISDIR))
+    if links is Links.FOLLOWED and is_device(path):
+        return
+    name = unfinished or unfinished_name(real)
     _kept(real)
-    remove(unfinished)
-    os.close(os.open(unfinished, _NEW, 0o600))
-    os.unlink(unfinished)
+    remove(name)
+    os.close(os.open(name, _NEW, 0o600))
+    os.unlink(name)
 
 
 def remove(path: str) -> None:

@@ -1,10 +1,9 @@
-"""Where the companions are: their folder, their version, the other commands.
+"""Where the companions are: their folder, their version, the programs.
 
 What takes long to load is loaded only where it is needed.
 """
 
 import os
-import sys
 from typing import Optional
 
 
@@ -69,15 +68,6 @@ def fingerprint(program: str) -> str:
         with open(program, "rb") as file:
             return hashlib.sha256(file.read()).hexdigest()
     return f"{status.st_size} {status.st_mtime_ns}"
-
-
-def command(name: str) -> str:
-    """Returns the path of another companion: in their folder, or where pip installed this one."""
-    for folder in (COMPANIONS, folder_above(os.path.realpath(sys.argv[0]))):
-        path = os.path.join(folder, name)
-        if os.path.isfile(path):
-            return path
-    return found(name) or name
 
 
 def program(name: str) -> Optional[str]:

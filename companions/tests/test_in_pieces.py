@@ -4,6 +4,7 @@ import os
 import signal
 from contextlib import contextmanager, suppress
 from itertools import product
+from multiprocessing.connection import Connection
 from typing import Iterator
 from unittest import mock
 
@@ -102,7 +103,7 @@ class InPieces(support.InRoom):
         whole = run_here.companion("pops-test", str(self.file))
         work_off = forked._work_off
 
-        def ended(work: forked.Work, given: int, written: int) -> None:
+        def ended(work: forked.Work, pieces: Connection) -> None:
             """Ends the copy at its third piece."""
             left = [None, None]
 
@@ -112,7 +113,7 @@ class InPieces(support.InRoom):
                 left.pop()
                 return work(piece)
 
-            work_off(some, given, written)
+            work_off(some, pieces)
 
         with pieces_of(1), mock.patch.object(forked, "_work_off", ended):
             self.assertEqual(run_here.companion("pops-test", str(self.file)), whole)

@@ -26,7 +26,7 @@ SAYS = """
 import io, sys
 from pops_companions.commands import many
 from pops_companions.many import bundle_run, bundles
-bundles.Bundles._size_in = lambda self, tasks, begin: len(tasks)
+bundles.Bundles._size_in = lambda self, tasks: len(tasks)
 bundle_run.MOMENT = 6000.0
 many.solve(many.arguments(sys.argv[1:2]), io.BytesIO())
 print([name for name in sys.argv[2:] if name in sys.modules])
@@ -56,7 +56,7 @@ class Costs(support.InRoom):
             looks.append(place)
             return look(pieces, place)
 
-        whole = mock.patch.object(Bundles, "_size_in", lambda self, tasks, begin: len(tasks))
+        whole = mock.patch.object(Bundles, "_size_in", lambda self, tasks: len(tasks))
         with steady(), whole, mock.patch.object(Pieces, "at", counted):
             outcome = run_here.companion("pops-many", "--pops", support.pops(), str(self.input))
         self.assertEqual(outcome.output, support.run([support.pops()], text).output)

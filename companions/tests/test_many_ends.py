@@ -178,7 +178,7 @@ from pops_companions.many import sessions
 code = "import os, subprocess; " + "subprocess.Popen(['sleep', '6000'], preexec_fn=os.setpgrp); " * 2
 run = subprocess.Popen([sys.executable, "-c", code + "import time; time.sleep(6000)"],
     start_new_session=True)
-with sessions.watched(run.pid, {folder!r}):
+with sessions.Watcher(run.pid, {folder!r}):
     print(run.pid, flush=True)
     {then}
 """

@@ -7,9 +7,9 @@ import unittest
 from pathlib import Path
 from unittest import mock
 
-from pops_companions.many.machines import logins_of
+from pops_companions.many.machines import decoded, logins_of
 from pops_companions.many.parallel import machine_of
-from pops_companions.many.remote_parts import _decoded, _Round
+from pops_companions.many.remote_parts import _Round
 from tests import run_here, support
 from tests.shown_limit import limit_when_shown
 from tests.six_problems import wait_for
@@ -257,7 +257,7 @@ class Ends(Machines):
 
         def take_or_stop(now: _Round, line: bytes) -> None:
             take(now, line)
-            came.add((_decoded(line) or (0, b""))[1])
+            came.add((decoded(line) or (0, b""))[1])
             kept = self.journal.read_bytes().count(b"\npart 0 ") if self.journal.exists() else 0
             if came >= {b"1.Kh8-g8\n", b"1.Kh8-h7\n"} and kept == 25 and not stopped.is_set():
                 stopped.set()

@@ -10,7 +10,7 @@ from pathlib import Path
 from typing import Any, Optional
 
 from pops_companions import command
-from pops_companions.command import CommandError, OneOf, Status, flag, option
+from pops_companions.command import DeviceError, OneOf, Status, flag, option
 from pops_companions.files import Links
 from pops_companions.input.given_source import read_given
 from pops_companions.many.child_process import outcome_of
@@ -87,10 +87,10 @@ def png_of(converter: str, width: int, drawing: bytes) -> bytes:
     try:
         done = outcome_of([*words, "--keep-aspect-ratio", "--width", str(width)], drawing)
     except OSError as error:
-        raise CommandError(Status.DEVICE, f"cannot run {converter}: {error.strerror}") from None
+        raise DeviceError(f"cannot run {converter}: {error.strerror}") from None
     if done.status != 0:
         said = done.errors.decode("utf-8", "replace").strip()
-        raise CommandError(Status.DEVICE, f"{converter} ended with {done.status}: {said}")
+        raise DeviceError(f"{converter} ended with {done.status}: {said}")
     return done.output
 
 
@@ -103,8 +103,7 @@ def drawing_of(settings: Settings) -> Drawing:
         return lambda group, board: latex(group, board, encoding).encode("utf-8", "replace")
     converter = shutil.which("rsvg-convert")
     if converter is None:
-        raise CommandError(
-            Status.DEVICE,
+        raise DeviceError(
             "--png needs rsvg-convert of librsvg (Debian: librsvg2-bin), which isn't on the PATH;"
             " --svg and --latex need nothing",
         )

@@ -11,7 +11,7 @@ from typing import BinaryIO, NamedTuple, Optional
 from pops.engine import Engine
 from pops.run import Ending, Limits
 from pops_companions import command
-from pops_companions.command import STANDARD_INPUT, CommandError, Status, flag, option, word
+from pops_companions.command import CommandError, DeviceError, Status, flag, option, word
 from pops_companions.files import Links
 from pops_companions.explain.diagnostics import diagnostic_object, diagnostics
 from pops_companions.explain.explaining import ExplainedFault, OtherText, explain
@@ -22,7 +22,7 @@ from pops_companions.explain.showing import Shower
 from pops_companions.input.pieces import cut
 from pops_companions.input.words import Span
 from pops_companions.many.fault_places import places_of
-from pops_companions.many.program import LOOKED_FOR, MissingError, RunError
+from pops_companions.many.program import LOOKED_FOR, MissingError
 from pops_companions.report.items import Item
 from pops_companions.report.reader import ReportError, read_report
 from pops_companions.show.titles import printable
@@ -47,7 +47,7 @@ class Settings(
 ):
     """The words of the command line."""
 
-    input: str = word("INPUT", "the text of problems", nargs="?", default=STANDARD_INPUT)
+    input: str = word("INPUT", "the text of problems", nargs="?", default=command.STANDARD_INPUT)
     report: Optional[str] = word("REPORT", "the report of pops on it", nargs="?")
     output: Optional[str] = command.output("the explanations")
     all: bool = flag(
@@ -71,9 +71,9 @@ class Settings(
 def arguments(words: list[str]) -> Settings:
     """Reads the words of the command line."""
     settings = Settings.read(words)
-    if settings.input == settings.report == STANDARD_INPUT:
+    if settings.input == settings.report == command.STANDARD_INPUT:
         settings.refuse("INPUT and REPORT can't both be standard input")
-    if settings.fix and settings.input == STANDARD_INPUT:
+    if settings.fix and settings.input == command.STANDARD_INPUT:
         settings.refuse("--fix needs an INPUT: the corrected text stands next to it")
     if settings.force and not settings.fix:
         settings.refuse("--force goes with --fix")
@@ -91,11 +91,6 @@ class Checked(NamedTuple):
     places: Places
 
 
-def name_of(file: str) -> str:
-    """Returns a file as messages name it."""
-    return "standard input" if file == STANDARD_INPUT else file
-
-
 def checked(text: bytes, named: Optional[str]) -> Checked:
     """Returns what pops says of a text without solving it."""
     most = _MOST_FOR_A_TEXT + _MOST_FOR_A_BYTE * len(text)
@@ -103,13 +98,13 @@ def checked(text: bytes, named: Optional[str]) -> Checked:
         engine = Engine(named)
         result = engine.check(text, Limits(bytes=most)).result
         if result.ending is Ending.BYTES:
-            raise CommandError(Status.DEVICE, f"pops wrote more than {most} bytes, and was ended")
+            raise DeviceError(f"pops wrote more than {most} bytes, and was ended")
         is_faulty = result.status == Status.FAULTY
         return Checked(result.text, places_of(text, engine.program) if is_faulty else {})
     except MissingError as error:
-        raise CommandError(Status.DEVICE, f"{error}; or give REPORT") from None
-    except (RunError, ReportError) as error:
-        raise CommandError(Status.DEVICE, str(error)) from None
+        raise DeviceError(f"{error}; or give REPORT") from None
+    except ReportError as error:
+        raise DeviceError(str(error)) from None
 
 
 def write(
@@ -205,7 +200,7 @@ def fix(file: str, text: bytes, force: bool) -> str:
 
 def main(words: list[str]) -> Status:
     settings = arguments(words)
-    name = name_of(settings.input)
+    name = command.name_of(settings.input)
     if settings.fix:
         command.refuse_shared([], [str(fixed_place(settings.input)), settings.output])
     text = command.read_all(settings.input)
@@ -223,8 +218,8 @@ def main(words: list[str]) -> Status:
                 report = io.BytesIO(said.report)
                 status = write(name, text, report, target, settings.all, said.places)
     except (ReportError, OtherText) as error:
-        source = "what pops said" if settings.report is None else name_of(settings.report)
-        raise CommandError(Status.DEVICE, f"{source} is no report of {name}: {error}") from None
+        source = "what pops said" if settings.report is None else command.name_of(settings.report)
+        raise DeviceError(f"{source} is no report of {name}: {error}") from None
     if settings.fix:
         sys.stderr.write(fix(settings.input, text, settings.force))
     return status

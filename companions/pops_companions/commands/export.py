@@ -4,7 +4,7 @@ import sys
 from typing import Optional
 
 from pops_companions import command
-from pops_companions.command import CommandError, Status, flag, option, word
+from pops_companions.command import DeviceError, Status, flag, option, word
 from pops_companions.export.problems import Exported, joined, read_problems
 from pops_companions.export.yaml_form import yaml_of
 from pops_companions.import_.words import Unreadable
@@ -49,7 +49,7 @@ def arguments(words: list[str]) -> Settings:
 def read(file: Optional[str], encoding: str) -> str:
     """Returns a text; lines that aren't in the encoding are read as Latin-1, and reported."""
     data = command.read_all(file)
-    other = other_lines(file or "standard input", data, encoding)
+    other = other_lines(command.name_of(file), data, encoding)
     if other:
         print(f"{NAME}: {other}", file=sys.stderr)
     return text_of(data, encoding)
@@ -71,8 +71,7 @@ def refuse_other_report(
         for _, problem, _ in one.parts:
             item = items.get(problem.number)
             if item is not None and item.stipulation.text != problem.stipulation:
-                raise CommandError(
-                    Status.DEVICE,
+                raise DeviceError(
                     f"{settings.report} isn't the report of the problems: problem {problem.number}"
                     f" is {item.stipulation.text} there, not {problem.stipulation}",
                 )
@@ -80,12 +79,11 @@ def refuse_other_report(
 
 def main(words: list[str]) -> Status:
     settings = arguments(words)
-    name = settings.file or "standard input"
+    name = command.name_of(settings.file)
     try:
         reading = read_problems(read(settings.file, settings.encoding))
     except Unreadable as error:
-        message = f"{name}, line {error.message.line}: {error}"
-        raise CommandError(Status.DEVICE, message) from None
+        raise DeviceError(f"{name}, line {error.message.line}: {error}") from None
     for one in reading.left_out:
         print(f"{NAME}: {name}, {one.text}", file=sys.stderr)
     is_yaml = settings.to == "yaml"
@@ -98,6 +96,5 @@ def main(words: list[str]) -> Status:
             written = "".join(yaml_of(problems, items))
         else:
             written = text_of_problems(one.lines() for one in problems)
-        with command.written(settings.output) as target:
-            target.write(written.encode("utf-8", "replace"))
+        command.write(settings.output, written.encode("utf-8", "replace"))
     return Status.FAULTY if reading.left_out else Status.GOOD

@@ -54,7 +54,7 @@ def of_file(file: Optional[str]) -> Iterator[Given]:
     """Yields the positions of a file: one a line, without empty lines and lines that begin with #, or
     the FEN tags of games in PGN.
     """
-    name = file or "standard input"
+    name = command.name_of(file)
     tags: dict[str, str] = {}
     begun = 0
     is_pgn = False
@@ -216,6 +216,5 @@ def main(words: list[str]) -> Status:
         tell_turned(turned)
     if problems:
         text = text_of_problems(problems).encode("utf-8", "surrogateescape")
-        with command.written(settings.output) as target:
-            target.write(text)
+        command.write(settings.output, text)
     return status

@@ -9,7 +9,7 @@ from pathlib import Path
 from typing import Optional
 
 from pops_companions import command
-from pops_companions.command import CommandError, Status, option, word
+from pops_companions.command import DeviceError, Status, option, word
 from pops_companions.find.boards import board_of
 from pops_companions.find.collection import Collection, CollectionError, Found, Wanted
 from pops_companions.find.dates import whole_date
@@ -167,7 +167,7 @@ def entries_in(file: str, encoding: str) -> tuple[list[Entry], bool]:
     try:
         entries, left_out = entries_of(kept_name(file), data, encoding)
     except EntriesError as error:
-        raise CommandError(Status.DEVICE, f"{file}: {error}") from None
+        raise DeviceError(f"{file}: {error}") from None
     for text in left_out:
         print(f"{NAME}: {file}, {text}", file=sys.stderr)
     return entries, not left_out
@@ -181,7 +181,7 @@ def add(collection: Collection, files: list[str], settings: Settings) -> Status:
         try:
             items = items_of(command.read_all(settings.report))
         except EntriesError as error:
-            raise CommandError(Status.DEVICE, f"{settings.report}: {error}") from None
+            raise DeviceError(f"{settings.report}: {error}") from None
     for file in files:
         entries, is_whole = entries_in(file, settings.encoding)
         status = status if is_whole else Status.FAULTY
@@ -230,8 +230,7 @@ def find(collection: Collection, settings: Settings) -> Status:
     found = answers(collection, settings)
     if settings.output is not None:
         page = as_page(found, Path(settings.collection).stem)
-        with command.written(settings.output) as target:
-            target.write(page.encode("utf-8", "replace"))
+        command.write(settings.output, page.encode("utf-8", "replace"))
     for answer in found:
         sys.stdout.buffer.write(as_text(answer).encode("utf-8", "replace"))
     return Status.GOOD if any(answer.found for answer in found) else Status.FAULTY
@@ -248,11 +247,10 @@ def main(words: list[str]) -> Status:
             return add(collection, settings.add, settings)
         except sqlite3.Error as error:
             message = f"cannot read {settings.collection}: {collection.reason(error)}"
-            raise CommandError(Status.DEVICE, message) from None
+            raise DeviceError(message) from None
         finally:
             collection.close()
     except CollectionError as error:
-        raise CommandError(Status.DEVICE, str(error)) from None
+        raise DeviceError(str(error)) from None
     except sqlite3.Error as error:
-        message = f"cannot read {settings.collection}: {error}"
-        raise CommandError(Status.DEVICE, message) from None
+        raise DeviceError(f"cannot read {settings.collection}: {error}") from None

@@ -2,7 +2,7 @@
 
 import json
 import sys
-from collections.abc import Iterable, Sequence
+from collections.abc import Iterable
 from enum import Enum
 from typing import NamedTuple, Optional
 
@@ -45,12 +45,6 @@ class Settings(
         " problem, twin, kind, reason",
     )
     encoding: str = command.encoding(command.is_of_text)
-
-    @property
-    def inputs(self) -> Sequence[Optional[str]]:
-        """The collections; None is standard input."""
-        inputs: list[Optional[str]] = [*self.files]
-        return inputs or [None]
 
 
 class Kind(Enum):
@@ -130,7 +124,7 @@ class Import:
 
     def read(self, file: Optional[str], encoding: str) -> None:
         """Converts the problems of a file, or of standard input, and reports what is left out."""
-        name = file or "standard input"
+        name = command.name_of(file)
         data = command.read_all(file)
         self._rows, self._texts = [], {}
         try:
@@ -217,14 +211,12 @@ def main(words: list[str]) -> Status:
     if settings.index is not None:
         command.refuse_shared([], [settings.output, settings.index])
     made = Import(settings.json)
-    for file in settings.inputs:
+    for file in command.inputs_of(settings.files):
         made.read(file, settings.encoding)
     if made.problems:
         text = text_of_problems(made.problems).encode("utf-8", "replace")
-        with command.written(settings.output) as target:
-            target.write(text)
+        command.write(settings.output, text)
     if settings.index is not None:
-        with command.written(settings.index) as target:
-            rows = [row_of(COLUMNS), *(entry.row for entry in made.entries)]
-            target.write("".join(rows).encode("utf-8", "surrogateescape"))
+        rows = [row_of(COLUMNS), *(entry.row for entry in made.entries)]
+        command.write(settings.index, "".join(rows).encode("utf-8", "surrogateescape"))
     return made.status

@@ -7,11 +7,11 @@ from pathlib import Path
 from typing import Optional
 
 from pops_companions import command
-from pops_companions.command import STANDARD_INPUT, CommandError, Status, flag, option, word
+from pops_companions.command import CommandError, DeviceError, Status, flag, option, word
 from pops_companions.input.given import given_problems
 from pops_companions.files import is_device
 from pops_companions.input.given_source import refuse_other_text
-from pops_companions.many.program import LOOKED_FOR, MissingError, find
+from pops_companions.many.program import LOOKED_FOR, find
 from pops_companions.many.tries_program import TRIES_LOOKED_FOR, find_tries
 from pops_companions.report.source import opened_unfinished_report
 from pops_companions.review.beside import Beside
@@ -63,19 +63,9 @@ class Settings(
 
 def runs_of(settings: Settings) -> Runs:
     """Returns the programs, and how they are run."""
-    try:
-        pops = find(settings.pops)
-        tries = find_tries(settings.pops_tries, pops)
-    except MissingError as error:
-        raise CommandError(Status.DEVICE, str(error)) from None
+    pops = find(settings.pops)
+    tries = find_tries(settings.pops_tries, pops)
     return Runs(pops, tries, settings.jobs, settings.seconds or None)
-
-
-def read_collection(name: str) -> bytes:
-    """Returns the text of a collection. CommandError where it doesn't begin as an input of pops."""
-    text = command.read_all(name)
-    refuse_other_text(name, text)
-    return text
 
 
 def folder_of(settings: Settings) -> Path:
@@ -85,7 +75,7 @@ def folder_of(settings: Settings) -> Path:
 
 def refuse_sheet(collection: str, sheet: str) -> None:
     """Refuses a sheet that is the collection or can't be written, before anything is solved."""
-    command.refuse_shared([collection] if collection != STANDARD_INPUT else [], [sheet])
+    command.refuse_shared([collection] if collection != command.STANDARD_INPUT else [], [sheet])
     if is_device(sheet) and not os.path.isdir(sheet):
         message = f"the sheet needs the name of a file, beside which its folder is: {sheet} is none"
         raise CommandError(Status.USAGE, message)
@@ -95,7 +85,7 @@ def refuse_sheet(collection: str, sheet: str) -> None:
         reason = os.strerror(errno.EACCES)
     else:
         return
-    raise CommandError(Status.DEVICE, f"cannot write {sheet}: {reason}")
+    raise DeviceError(f"cannot write {sheet}: {reason}")
 
 
 def judgements_of(settings: Settings, work: Work, beside: Beside) -> list[JudgedGroup]:
@@ -109,10 +99,11 @@ def judgements_of(settings: Settings, work: Work, beside: Beside) -> list[Judged
 
 def judge(settings: Settings) -> Status:
     """Runs what is needed, writes the sheet and prints the verdicts."""
-    text = read_collection(settings.collection)
+    text = command.read_all(settings.collection)
+    refuse_other_text(settings.collection, text)
     refuse_sheet(settings.collection, settings.output)
     given = given_problems(text)
-    name = "standard input" if settings.collection == STANDARD_INPUT else settings.collection
+    name = command.name_of(settings.collection)
     work = Work(folder_of(settings), runs_of(settings), name)
     work.begin(text, settings.resume)
     work.solve()
@@ -129,8 +120,7 @@ def judge(settings: Settings) -> Status:
     heading = settings.heading or Path(name).stem
     evidence = Evidence(boards_of(text), tries, settings.encoding, most)
     page = sheet(tally.counted(judged), tally, heading, evidence)
-    with command.written(settings.output) as target:
-        target.write(page.encode("utf-8", "replace"))
+    command.write(settings.output, page.encode("utf-8", "replace"))
     for one in judged:
         print(as_text(one, settings.encoding, 0).split("\n")[0])
     print(tally.text)

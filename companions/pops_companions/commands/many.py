@@ -5,10 +5,11 @@ import os
 import sys
 from collections.abc import Sequence
 from contextlib import ExitStack, suppress
-from typing import TYPE_CHECKING, BinaryIO, NamedTuple, Optional, Union
+from itertools import chain
+from typing import TYPE_CHECKING, BinaryIO, Optional, Union
 
 from pops_companions import command
-from pops_companions.command import CommandError, Status
+from pops_companions.command import CommandError, DeviceError, Status
 from pops_companions.commands.many_options import (
     NAME,
     SPLIT_AFTER,
@@ -20,10 +21,10 @@ from pops_companions.commands.many_options import (
 from pops_companions.files import Links
 from pops_companions.many.identity import Known
 from pops_companions.many.joining import Joined, Report, path_of_report, write_index
-from pops_companions.many.journal import Journal, JournalError, Origin, fingerprint
+from pops_companions.many.journal import Journal, Origin, fingerprint
 from pops_companions.many.program import MissingError, Program, find, find_part_program
 from pops_companions.many.progress import Progress
-from pops_companions.many.running import Elsewhere, PartPrograms, Programs, Run
+from pops_companions.many.running import Elsewhere, Programs, Run
 from pops_companions.many.targets import Target, UnfinishedTarget
 from pops_companions.many.tasks import Input, Source, Tasks, tasks_of
 from pops_companions.places import folder_above
@@ -118,11 +119,9 @@ def open_journal(path: str, settings: Settings, origin: Origin, tasks: int) -> J
             new = os.O_CREAT | os.O_EXCL | os.O_NOFOLLOW | os.O_CLOEXEC
             os.close(os.open(path, new, 0o600))
         return Journal(path, origin, settings.resume, tasks, settings.seconds)
-    except JournalError as error:
-        raise CommandError(Status.USAGE, str(error)) from None
     except OSError as error:
         what = "open" if settings.resume else "write"
-        raise CommandError(Status.DEVICE, f"cannot {what} {path}: {error.strerror}") from None
+        raise DeviceError(f"cannot {what} {path}: {error.strerror}") from None
 
 
 def name_of_run(journal: str, fingerprint: bytes) -> bytes:
@@ -142,12 +141,7 @@ def note_programs(
                 f"{journal.path} is of another pops-part: name that one with --pops-part, or remove it",
             )
     if elsewhere is not None:
-        from pops_companions.many.machines import MachinesError
-
-        try:
-            elsewhere.machines.keep_to(journal.is_from)
-        except MachinesError as error:
-            raise CommandError(Status.DEVICE, str(error)) from None
+        elsewhere.machines.keep_to(journal.is_from)
 
 
 class StoppedError(CommandError):
@@ -169,9 +163,7 @@ def try_out(targets: Sequence[Target]) -> None:
         try:
             target.try_out()
         except OSError as error:
-            raise CommandError(
-                Status.DEVICE, f"cannot write {target.path}: {error.strerror}"
-            ) from None
+            raise DeviceError(f"cannot write {target.path}: {error.strerror}") from None
 
 
 def refuse_foreign(reports: Sequence[Report]) -> None:
@@ -200,18 +192,14 @@ def is_cut_unasked(settings: Settings, tasks: Tasks) -> bool:
 
 def programs_of(settings: Settings, options: list[str]) -> Programs:
     """Returns the programs on this machine."""
-    try:
-        pops = find(settings.pops)
-        if not settings.split:
-            return Programs(Program(pops, options, settings.seconds), None)
-        from pops_companions.many.part_program import PartProgram
+    pops = find(settings.pops)
+    if not settings.split:
+        return Programs(Program(pops, options, settings.seconds))
+    from pops_companions.many.part_program import PartProgram
 
-        part_program = PartProgram(find_part_program(settings.pops_part, pops), depth_of(settings))
-    except MissingError as error:
-        raise CommandError(Status.DEVICE, str(error)) from None
+    part_program = PartProgram(find_part_program(settings.pops_part, pops), depth_of(settings))
     checking = Program(pops, options + ["--check"], None)
-    whole = Program(pops, options, SPLIT_AFTER)
-    return Programs(whole, PartPrograms(checking, part_program))
+    return Programs(Program(pops, options, SPLIT_AFTER), checking, part_program)
 
 
 def elsewhere_of(
@@ -225,37 +213,18 @@ def elsewhere_of(
     if not settings.sshlogin:
         return None
     # (what small runs don't need is loaded only where it is needed)
-    from pops_companions.many.machines import Machines, MachinesError
-    from pops_companions.many.parallel import Parallel, ParallelError
+    from pops_companions.many.machines import Machines
+    from pops_companions.many.parallel import Parallel
     from pops_companions.many.remote_parts import RemoteParts
 
-    say, parts = progress.say, programs.parts.parts if programs.parts is not None else None
+    say, parts = progress.say, programs.parts
     pops_part = settings.remote_pops_part or "pops-part"
     names = [settings.remote_pops, *([pops_part] if parts is not None else [])]
-    try:
-        parallel = Parallel(settings.jobs, settings.ssh, say)
-        opened.callback(parallel.close)
-        here = (programs.whole, parts)
-        machines = Machines(settings.sshlogin, parallel, options, names, here, say)
-    except (MachinesError, ParallelError) as error:
-        raise CommandError(Status.DEVICE, str(error)) from None
-    if parts is None:
-        return Elsewhere(machines, None)
-    return Elsewhere(machines, RemoteParts(machines, parallel, pops_part, parts, say))
-
-
-class Files(NamedTuple):
-    """What a run writes besides its journal."""
-
-    reports: list[Report]
-    table: Optional[Target]
-
-    @property
-    def targets(self) -> list[Target]:
-        """All files, in the order in which they are refused."""
-        files = [report.file for report in self.reports]
-        seconds = [report.unfinished for report in self.reports]
-        return [target for target in [*files, *seconds, self.table] if target is not None]
+    parallel = Parallel(settings.jobs, settings.ssh, say)
+    opened.callback(parallel.close)
+    machines = Machines(settings.sshlogin, parallel, options, names, (programs.whole, parts), say)
+    there = RemoteParts(machines, parallel, pops_part, parts, say) if parts is not None else None
+    return Elsewhere(machines, there)
 
 
 class Solving:
@@ -266,20 +235,19 @@ class Solving:
         self._settings = settings
         self._options = ["--check"] * settings.check + ["--no-board"] * settings.no_board
         self._progress = Progress(NAME)
-        sources = [read_source(name, self._progress) for name in settings.inputs]
+        sources = [read_source(it, self._progress) for it in command.inputs_of(settings.files)]
         self._tasks = tasks_of(sources)
         say_of_rests(self._tasks.inputs, self._progress)
         settings.split = settings.split or is_cut_unasked(settings, self._tasks)
         self._programs = programs_of(settings, self._options)
         # (pops, and pops-part where it is needed)
-        parts = self._programs.parts
-        self._known = [known_of(self._programs.whole, known)]
-        if parts:
-            self._known.append(known_of(parts.parts, known))
-            parts.checking.look = self._programs.whole.look
+        whole, checking, parts = self._programs
+        self._known = [known_of(it, known) for it in (whole, parts) if it is not None]
+        if checking is not None:
+            checking.look = whole.look
         self._jobs = settings.jobs or len(os.sched_getaffinity(0))
         if settings.split:
-            self._programs.whole.seconds = moment_of(settings, len(self._tasks), self._jobs)
+            whole.seconds = moment_of(settings, len(self._tasks), self._jobs)
         self._name = fingerprint(sources, self._options)
 
     def solve(self, output: BinaryIO) -> int:
@@ -288,34 +256,35 @@ class Solving:
         journal_path = path_of_journal(settings)
         name = name_of_run(journal_path, self._name)
         reports = reports_of(settings, self._tasks, journal_path, name)
-        files = Files(reports, Target(settings.index, name) if settings.index else None)
-        written: list[Optional[str]] = [*(file.path for file in files.targets), journal_path]
+        table = Target(settings.index, name) if settings.index else None
+        files = [it.file for it in reports], [it.unfinished for it in reports], [table]
+        targets = [target for target in chain(*files) if target is not None]
+        written: list[Optional[str]] = [*(target.path for target in targets), journal_path]
         written += [None] * any(report.file is None for report in reports)
         command.refuse_shared(settings.files, written)
         refuse_foreign(reports)
         with ExitStack() as opened:
             programs, progress = self._programs, self._progress
             elsewhere = elsewhere_of(settings, self._options, programs, progress, opened)
-            status = self._solve(files, journal_path, output, elsewhere)
+            origin = Origin(self._name, self._known[0].identity.encode("ascii"))
+            journal = open_journal(journal_path, settings, origin, len(self._tasks))
+            try:
+                note_programs(journal, self._known, elsewhere)
+                try_out(targets)
+            except CommandError:
+                journal.close(kept=settings.resume)
+                raise
+            joined = Joined(journal, reports, output)
+            status = self._solve(journal, joined, table, elsewhere)
         return status
 
     def _solve(
-        self, files: Files, journal_path: str, output: BinaryIO, elsewhere: Optional[Elsewhere]
+        self, journal: Journal, joined: Joined, index: Optional[Target], where: Optional[Elsewhere]
     ) -> int:
-        settings = self._settings
-        origin = Origin(self._name, self._known[0].identity.encode("ascii"))
-        journal = open_journal(journal_path, settings, origin, len(self._tasks))
-        try:
-            note_programs(journal, self._known, elsewhere)
-            try_out(files.targets)
-        except CommandError:
-            journal.close(kept=settings.resume)
-            raise
-        joined = Joined(journal, files.reports, output)
         journal.refuse = joined.refuse = lambda: self._refuse_changed(journal)
-        joined.holds_files = elsewhere is not None
+        joined.holds_files = where is not None
         try:
-            return self._go(journal, joined, files.table, elsewhere)
+            return self._go(journal, joined, index, where)
         except ChangedError:
             self._progress.end()
             with suppress(OSError):

@@ -2,7 +2,6 @@
 
 import argparse
 import shlex
-from collections.abc import Sequence
 from typing import Optional
 
 from pops_companions import command
@@ -130,12 +129,6 @@ class Settings(
         "the ssh that GNU parallel uses, with its options",
         type=_shell_command,
     )
-
-    @property
-    def inputs(self) -> Sequence[Optional[str]]:
-        """The inputs; None is standard input."""
-        inputs: list[Optional[str]] = [*self.files]
-        return inputs or [None]
 
     @property
     def report(self) -> Optional[str]:

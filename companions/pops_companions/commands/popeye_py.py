@@ -10,14 +10,14 @@ from pops.engine import Engine
 from pops.run import Ending, Limits, Result
 from pops_companions import command
 from pops_companions.chess.stipulation import Play
-from pops_companions.command import CommandError, Status, option, word
+from pops_companions.command import DeviceError, Status, option, word
 from pops_companions.export import popeye_layout
 from pops_companions.import_.draft import Draft, Options
 from pops_companions.import_.posing import Posed, posed
 from pops_companions.import_.sources import read_drafts
 from pops_companions.import_.words import Unreadable
 from pops_companions.input.writing import text_of_problems
-from pops_companions.many.program import LOOKED_FOR, MissingError, RunError
+from pops_companions.many.program import LOOKED_FOR, RunError
 from pops_companions.many.tries_program import TRIES_LOOKED_FOR
 from pops_companions.report.items import FaultyItem, Node, Phase, SoundItem
 from pops_companions.report.reader import ReportError
@@ -165,9 +165,8 @@ def drafts_of(file: Optional[str]) -> list[Draft]:
     try:
         return read_drafts(text)
     except Unreadable as error:
-        name = file or "standard input"
-        message = f"{name}, line {error.message.line}: {error}"
-        raise CommandError(Status.DEVICE, message) from None
+        name = command.name_of(file)
+        raise DeviceError(f"{name}, line {error.message.line}: {error}") from None
 
 
 def write(solver: Solver, draft: Draft, one: Posed) -> Status:
@@ -186,15 +185,14 @@ def write(solver: Solver, draft: Draft, one: Posed) -> Status:
 
 def main(words: list[str]) -> Status:
     settings = Settings.read(words)
-    inputs: list[Optional[str]] = [*settings.files]
     try:
         solver = Solver(settings)
         statuses = [
             write(solver, draft, one)
-            for file in inputs or [None]
+            for file in command.inputs_of(settings.files)
             for draft in drafts_of(file)
             for one in posed(draft)
         ]
-    except (MissingError, RunError, ReportError) as error:
-        raise CommandError(Status.DEVICE, str(error)) from None
+    except ReportError as error:
+        raise DeviceError(str(error)) from None
     return max(statuses, default=Status.GOOD)

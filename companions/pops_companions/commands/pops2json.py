@@ -114,8 +114,7 @@ def main(words: list[str]) -> Status:
     settings = arguments(words)
     if settings.schema:
         form = Form.EVENT if settings.events else Form.TRIES if settings.tries else Form.ITEM
-        with command.written(settings.output) as target:
-            target.write((json.dumps(schema(form), indent=1) + "\n").encode())
+        command.write(settings.output, (json.dumps(schema(form), indent=1) + "\n").encode())
         return Status.GOOD
     objects = objects_of_events(settings) if settings.events else objects_of_items(settings)
     with command.written(settings.output) as target:

@@ -11,7 +11,7 @@ from typing import Optional, Union
 
 from pops_companions import command
 from pops_companions.chess.stipulation import Play
-from pops_companions.command import CommandError, Status, flag, option, word
+from pops_companions.command import DeviceError, Status, flag, option, word
 from pops_companions.input.given import GivenProblem, given_problems
 from pops_companions.input.given_source import refuse_other_text, warn_of_rest
 from pops_companions.many import sessions
@@ -22,7 +22,7 @@ from pops_companions.many.child_process import (
     refuse_unlisted,
     wrote_more,
 )
-from pops_companions.many.program import LOOKED_FOR, MissingError, find
+from pops_companions.many.program import LOOKED_FOR, find
 from pops_companions.many.tries_program import TRIES_LOOKED_FOR, TriesProgram, find_tries
 from pops_companions.report.items import AnyItem, Board, FaultyItem, HeadlessItem, SoundItem
 from pops_companions.report.reader import ReportError, read_unfinished_report
@@ -153,11 +153,11 @@ class Texts:
         named = self._settings.report
         try:
             if named is None:
-                return self._solving.items(self._pops())
+                return self._solving.items(find(self._settings.pops))
             return list(read_unfinished_report(io.BytesIO(command.read_all(named))))
         except ReportError as error:
             message = f"{named or 'the output of pops'} is no report of pops: {error}"
-            raise CommandError(Status.DEVICE, message) from None
+            raise DeviceError(message) from None
 
     def tries(self, items: list[AnyItem]) -> dict[int, TriesItem]:
         """Returns the tries of these items; none without pops-tries."""
@@ -170,12 +170,12 @@ class Texts:
         for item in found:
             if isinstance(item, FaultyItem) and item.number in sound:
                 message = f"{named} calls problem {item.number} faulty, and the report sound"
-                raise CommandError(Status.DEVICE, message)
+                raise DeviceError(message)
         return {item.number: item for item in found if isinstance(item, TriesItem)}
 
     def _solved_tries(self, items: list[AnyItem]) -> dict[int, TriesItem]:
         """Returns what pops-tries shows of the items of battle play."""
-        program = self._tries_program()
+        program = find_tries(self._settings.pops_tries, self._settings.pops)
         if program is None:
             print(f"{NAME}: pops-tries isn't installed: threats and tries aren't shown", file=sys.stderr)
             return {}
@@ -187,19 +187,6 @@ class Texts:
             said = f"its tries and threats took longer than {self._settings.seconds:g} s"
             print(f"{NAME}: problem {number}: {said}", file=sys.stderr)
         return found
-
-    def _pops(self) -> str:
-        try:
-            return find(self._settings.pops)
-        except MissingError as error:
-            raise CommandError(Status.DEVICE, str(error)) from None
-
-    def _tries_program(self) -> Optional[str]:
-        pops = "" if self._settings.pops_tries else self._pops()
-        try:
-            return find_tries(self._settings.pops_tries, pops)
-        except MissingError as error:
-            raise CommandError(Status.DEVICE, str(error)) from None
 
 
 def with_missing(items: list[AnyItem], given: list[GivenProblem]) -> list[AnyItem]:
@@ -258,7 +245,7 @@ def refuse_other_report(
     """Raises CommandError where a report isn't of the input."""
     numbers = [item.number for item in items]
     if numbers != sorted(set(numbers)) or any(it > len(given) for it in numbers):
-        raise CommandError(Status.DEVICE, "the report isn't that of the input: other problems")
+        raise DeviceError("the report isn't that of the input: other problems")
     refuse_others("report", [it for it in items if isinstance(it, SoundItem)], given, boards)
 
 
@@ -279,8 +266,7 @@ def refuse_others(
             or one.board not in (None, board)
             or (board is not None and not are_possible(board.men, item))
         ):
-            message = f"the {name} isn't that of the input: problem {one.number} differs"
-            raise CommandError(Status.DEVICE, message)
+            raise DeviceError(f"the {name} isn't that of the input: problem {one.number} differs")
 
 
 def refuse_other_tries(items: Iterable[AnyItem], tries: dict[int, TriesItem]) -> None:
@@ -289,7 +275,7 @@ def refuse_other_tries(items: Iterable[AnyItem], tries: dict[int, TriesItem]) ->
         shown = tries.get(item.number)
         if isinstance(item, SoundItem) and shown is not None and not is_of_item(shown, item):
             message = f"the text of tries has another problem {item.number} than the report"
-            raise CommandError(Status.DEVICE, message)
+            raise DeviceError(message)
 
 
 def printed(words: list[str], room: str) -> Outcome:
@@ -304,7 +290,7 @@ def printed(words: list[str], room: str) -> Outcome:
     held = ["/bin/sh", "-c", 'read -r _ && exec "$@"', "sh", *words]
     refuse_unlisted(held[0])
     child = ChildProcess(held, subprocess.PIPE, subprocess.PIPE, environment)
-    with sessions.watched(child.run.pid, room):
+    with sessions.Watcher(child.run.pid, room):
         try:
             return child.outcome(b"\n")
         finally:
@@ -316,7 +302,7 @@ def pdf_of(page: str) -> bytes:
     browser = next((it for it in BROWSERS if shutil.which(it)), None)
     if browser is None:
         message = "--to pdf needs chromium, which isn't on the PATH; --to html needs nothing"
-        raise CommandError(Status.DEVICE, message)
+        raise DeviceError(message)
     with sessions.passing_folder("pops-sheet-") as room:
         source, target = Path(room) / "sheet.html", Path(room) / "sheet.pdf"
         source.write_text(page, "utf-8", "replace")
@@ -324,9 +310,9 @@ def pdf_of(page: str) -> bytes:
         words += [f"--user-data-dir={room}/profile", f"--print-to-pdf={target}", source.as_uri()]
         done = printed([browser, *words], room)
         if done.status != 0 or not target.is_file():
-            raise CommandError(Status.DEVICE, f"{browser} ended with {done.status}")
+            raise DeviceError(f"{browser} ended with {done.status}")
         if target.stat().st_size > MOST_OUTPUT:
-            raise CommandError(Status.DEVICE, f"{browser}: {wrote_more(MOST_OUTPUT)}")
+            raise DeviceError(f"{browser}: {wrote_more(MOST_OUTPUT)}")
         return target.read_bytes()
 
 
@@ -373,6 +359,5 @@ def main(words: list[str]) -> Status:
     entries = list(made.entries(found, settings.first_number, settings.apart))
     warn_of_short_lines(entries, tries)
     written = written_as(settings, entries)
-    with command.written(settings.output) as target:
-        target.write(written)
+    command.write(settings.output, written)
     return Status.GOOD if all(map(is_solved, items)) else Status.FAULTY

@@ -6,7 +6,7 @@ from functools import partial
 from typing import Optional
 
 from pops_companions import command
-from pops_companions.command import CommandError, Status, flag, option, word
+from pops_companions.command import DeviceError, Status, flag, option, word
 from pops_companions.input.given_source import read_given
 from pops_companions.input.writing import text_of_problems
 from pops_companions.report.source import NamedText, opened_unfinished_report, unfinished_beside
@@ -97,9 +97,8 @@ def pose(file: Optional[str], output: Optional[str]) -> None:
     if not posed:
         has_any = any(problem.stipulation is not None for problem in given)
         reason = "with a shorter stipulation" if has_any else "without a fault: see pops-explain"
-        raise CommandError(Status.DEVICE, f"{file or 'standard input'} has no problem {reason}")
-    with command.written(output) as target:
-        target.write(text_of_problems(posed).encode("utf-8", "surrogateescape"))
+        raise DeviceError(f"{command.name_of(file)} has no problem {reason}")
+    command.write(output, text_of_problems(posed).encode("utf-8", "surrogateescape"))
 
 
 def test(settings: Settings) -> Status:
@@ -121,7 +120,7 @@ def opened_texts(
 ) -> Iterator[Iterator[bytes]]:
     """Opens the report, and yields what is written, piece by piece: text and CSV problem by problem."""
     file, encoding = settings.text, settings.encoding
-    named = NamedText(NAME, file or "standard input", encoding)
+    named = NamedText(NAME, command.name_of(file), encoding)
     report = JudgedReport(named, beside, form_of(settings), tally)
     if unfinished_beside(file, settings.unfinished) is None:
         with command.opened(file) as source:

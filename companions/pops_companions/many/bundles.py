@@ -122,13 +122,6 @@ def _move_faults(bodies: list[bytes], first: Task) -> bool:
     return is_faulty
 
 
-class _Run(NamedTuple):
-    """Neighbours, of which the ones from `begin` on wait."""
-
-    tasks: Sequence[Task]
-    begin: int
-
-
 class Bundles:
     """Hands out tasks in bundles, to several threads; sizes follow from the time that bundles take."""
 
@@ -136,7 +129,8 @@ class Bundles:
         self._jobs = jobs
         self._most = len(tasks) // (_BUNDLES_OF_A_JOB * jobs)
         runs = neighbours(tasks) if self._most > 1 else [[task] for task in tasks]
-        self._waiting = deque(_Run(run, 0) for run in runs)
+        # Neighbours, of which the first ones are the next bundle.
+        self._waiting = deque(runs)
         self._left = len(tasks)
         self._at_work = 0
         self._seconds_each: Optional[float] = None
@@ -151,22 +145,21 @@ class Bundles:
                 self._changed.wait()
             if not self._waiting or self._is_closed:
                 return None
-            tasks, begin = self._waiting.popleft()
-            stop = begin + self._size_in(tasks, begin)
-            if stop < len(tasks):
-                self._waiting.appendleft(_Run(tasks, stop))
+            tasks = self._waiting.popleft()
+            size = self._size_in(tasks)
+            if size < len(tasks):
+                self._waiting.appendleft(tasks[size:])
             self._at_work += 1
-            self._left -= stop - begin
-            return tasks[begin:stop]
+            self._left -= size
+            return tasks[:size]
 
-    def _size_in(self, tasks: Sequence[Task], begin: int) -> int:
-        """Returns how many problems of a run, from one on, are the next bundle."""
-        left = len(tasks) - begin
+    def _size_in(self, tasks: Sequence[Task]) -> int:
+        """Returns how many of some neighbours are the next bundle."""
         most = max(min(self._most, self._left // (2 * self._jobs)), self._least)
-        size = max(min(int(self._size), left, most), 1)
-        first = tasks[begin]
+        size = max(min(int(self._size), len(tasks), most), 1)
+        first = tasks[0]
         while size > 1:
-            last = tasks[begin + size - 1]
+            last = tasks[size - 1]
             assert first.pieces is not None
             if first.pieces.stops[last.at] - first.pieces.starts[first.at] <= _LONGEST:
                 break
@@ -191,7 +184,7 @@ class Bundles:
         """Takes back the problems of a bundle that its run doesn't solve."""
         if tasks:
             with self._changed:
-                self._waiting.appendleft(_Run(tasks, 0))
+                self._waiting.appendleft(tasks)
                 self._left += len(tasks)
                 self._changed.notify_all()
 

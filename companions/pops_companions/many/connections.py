@@ -28,7 +28,7 @@ class Connections:
             self._open.close()
             return
         self._open.callback(sessions.end_connections, folder)
-        self._open.enter_context(sessions.watched(0, folder))
+        self._open.enter_context(sessions.Watcher(0, folder))
         self.options = (
             f" -o ControlMaster=auto -o ControlPath={folder}/%C -o ControlPersist={_SECONDS_IDLE}"
         )

@@ -2,15 +2,9 @@
 
 import re
 
+from pops_companions.command import DeviceError
 from pops_companions.input.words import Span
-from pops_companions.many.program import (
-    FAULTY,
-    SOUND,
-    MissingError,
-    RunError,
-    Runs,
-    find_part_program,
-)
+from pops_companions.many.program import FAULTY, SOUND, Runs, find_part_program
 
 _LISTED = re.compile(rb"(\d+): fault \d+, line \d+, bytes (\d+) up to (\d+)\n")
 
@@ -21,7 +15,7 @@ def places_of(text: bytes, pops: str) -> dict[int, Span]:
     """
     try:
         run = Runs("pops-part", [find_part_program(None, pops)]).outcome(["--faults"], text)
-    except (MissingError, RunError):
+    except DeviceError:
         return {}
     if run.status not in (SOUND, FAULTY):
         return {}

@@ -5,25 +5,26 @@ import gc
 import os
 import select
 import signal
-import struct
+import threading
+from collections import deque
 from collections.abc import Callable, Iterator
-from contextlib import suppress
+from concurrent.futures import Future, ThreadPoolExecutor
+from contextlib import ExitStack, suppress
 from functools import partial
+from multiprocessing import Pipe
+from multiprocessing.connection import Connection
+from queue import SimpleQueue
 from typing import Optional
 
 from pops_companions.many.child_process import killed_with_holder, pipe_of_others
 
-# The number of bytes before a piece and before its result.
-_LENGTH = struct.Struct(">q")
-# Is in place of the length of a result where the work failed.
-_FAILED = -1
 _SIGNALS = (signal.SIGINT, signal.SIGTERM, signal.SIGHUP)
 # The pieces for each copy that may be done before an earlier one is.
 _MOST_AHEAD = 4
+# On how many copies a piece is tried that ends them.
+_TRIES = 2
 
 Work = Callable[[bytes], bytes]
-# The number of a piece, and the piece.
-Given = tuple[int, bytes]
 
 
 def can_fork() -> bool:
@@ -36,48 +37,42 @@ class _Copy:
 
     def __init__(self, work: Work, others: "list[_Copy]"):
         """Makes the copy. OSError where none can be made."""
-        opened: list[int] = []
-        try:
-            for _ in range(3):
-                opened.extend(pipe_of_others())
-            watched, self._held, given, self._to, self.results, written = opened
-            self._process = _forked(partial(_serve, work, watched, given, written, [self, *others]))
-        except BaseException:
-            for handle in opened:
-                os.close(handle)
-            raise
-        for handle in (watched, given, written):
-            os.close(handle)
-        self.piece: Optional[Given] = None
-        self.has_ended = False
+        self._is_over = False
+        with ExitStack() as own, ExitStack() as handed:
+            watched, self._held = pipe_of_others()
+            own.callback(os.close, self._held)
+            handed.callback(os.close, watched)
+            self._pieces, given = Pipe()
+            own.callback(self._pieces.close)
+            handed.callback(given.close)
+            self._process = _forked(partial(_serve, work, watched, given, [self, *others]))
+            own.pop_all()
 
     def close(self) -> None:
         """Closes this process's ends of the pipes, the first of which ends the copy."""
-        for handle in (self._held, self._to, self.results):
-            os.close(handle)
+        os.close(self._held)
+        self._pieces.close()
 
-    def give(self, piece: Given) -> None:
-        """Gives a piece to a copy that has none."""
-        self.piece = piece
-        with suppress(BrokenPipeError):
-            _write(self._to, _LENGTH.pack(len(piece[1])))
-            _write(self._to, piece[1])
+    def result(self, piece: bytes) -> Optional[bytes]:
+        """Returns the result of a piece; None where the work failed. OSError or EOFError where the copy
+        has ended.
+        """
+        self._pieces.send_bytes(piece)
+        result: Optional[bytes] = self._pieces.recv()
+        return result
 
-    def result(self) -> Optional[bytes]:
-        """Returns the result of its piece; None where the work failed, or the copy has ended."""
-        head = _read(self.results, _LENGTH.size)
-        length = 0 if head is None else _LENGTH.unpack(head)[0]
-        if length == _FAILED:
-            return None
-        found = None if head is None else _read(self.results, length)
-        self.has_ended = found is None
-        return found
+    def kill(self) -> None:
+        """Ends the process, from any thread: its piece has no result."""
+        if not self._is_over:
+            os.kill(self._process, signal.SIGKILL)
 
     def end(self) -> None:
-        """Ends the process."""
-        self.close()
-        os.kill(self._process, signal.SIGKILL)
-        os.waitpid(self._process, 0)
+        """Ends the process, and closes the pipes."""
+        if not self._is_over:
+            self.kill()
+            os.waitpid(self._process, 0)
+            self._is_over = True
+            self.close()
 
 
 def _forked(serve: Callable[[], None]) -> int:
@@ -99,56 +94,27 @@ def _forked(serve: Callable[[], None]) -> int:
         signal.pthread_sigmask(signal.SIG_SETMASK, before)
 
 
-def _serve(work: Work, watched: int, given: int, written: int, copies: list[_Copy]) -> None:
+def _serve(work: Work, watched: int, pieces: Connection, copies: list[_Copy]) -> None:
     """Does the work of a copy. (It has the handles of the others, which would keep them.)"""
     for copy in copies:
         copy.close()
     killed_with_holder(watched, os.getpid())
     # (what is there stays there: looking through it would copy it)
     gc.freeze()
-    if not _has_come([watched], 0):
-        _work_off(work, given, written)
+    ended = select.poll()
+    ended.register(watched, select.POLLIN)
+    if not ended.poll(0):
+        _work_off(work, pieces)
 
 
-def _work_off(work: Work, given: int, written: int) -> None:
+def _work_off(work: Work, pieces: Connection) -> None:
     """Does the work on each piece, until there is none."""
-    while (head := _read(given, _LENGTH.size)) is not None:
-        piece = _read(given, _LENGTH.unpack(head)[0])
-        if piece is None:
-            return
-        try:
-            result = work(piece)
-        except Exception:
-            _write(written, _LENGTH.pack(_FAILED))
-            continue
-        _write(written, _LENGTH.pack(len(result)))
-        _write(written, result)
-
-
-def _write(handle: int, data: bytes) -> None:
-    view = memoryview(data)
-    while view:
-        view = view[os.write(handle, view) :]
-
-
-def _read(handle: int, length: int) -> Optional[bytes]:
-    """Returns this many bytes; None where there are fewer."""
-    parts: list[bytes] = []
-    while length:
-        part = os.read(handle, length)
-        if not part:
-            return None
-        parts.append(part)
-        length -= len(part)
-    return b"".join(parts)
-
-
-def _has_come(handles: list[int], milliseconds: Optional[int] = None) -> list[int]:
-    """Waits until something has come, or an end, and returns from where."""
-    poll = select.poll()
-    for handle in handles:
-        poll.register(handle, select.POLLIN)
-    return [handle for handle, _ in poll.poll(milliseconds)]
+    with suppress(EOFError, OSError):
+        while True:
+            piece, result = pieces.recv_bytes(), None
+            with suppress(Exception):
+                result = work(piece)
+            pieces.send(result)
 
 
 class Copies:
@@ -156,93 +122,65 @@ class Copies:
 
     def __init__(self, work: Work, number: int):
         self._copies: list[_Copy] = []
-        # Pieces whose copies were ended on them: the ones to give again, and the numbers of all so far.
-        self._again: list[Given] = []
-        self._lost: set[int] = set()
         with suppress(OSError):
             for _ in range(number):
                 self._copies.append(_Copy(work, self._copies))
+        self._left = len(self._copies)
+        # The copies without a piece; None once all have ended.
+        self._idle: SimpleQueue[Optional[_Copy]] = SimpleQueue()
+        for copy in self._copies:
+            self._idle.put(copy)
+        if not self._copies:
+            self._idle.put(None)
+        self._lock = threading.Lock()
+        self._threads = ThreadPoolExecutor(max(self._left, 1))
 
     def __enter__(self) -> "Copies":
         return self
 
     def __exit__(self, *_: object) -> None:
+        self.stop()
+        self._threads.shutdown(cancel_futures=True)
         for copy in self._copies:
             copy.end()
 
     def stop(self) -> None:
         """Ends all copies; the pieces that are left have no results."""
-        for copy in self._copies:
-            if copy.piece is not None:
-                self._again.append(copy.piece)
-            copy.end()
-        self._copies.clear()
+        with self._lock:
+            for copy in self._copies:
+                copy.kill()
 
     def results(self, pieces: Iterator[bytes]) -> Iterator[tuple[bytes, Optional[bytes]]]:
         """Yields each piece with its result in their order; without one, where the work failed on it, or
         two copies were ended on it, or none is left.
         """
-        done: dict[int, tuple[bytes, Optional[bytes]]] = {}
-        numbered = enumerate(pieces)
-        shown = given = 0
-        is_over = False
-        while not is_over or shown < given:
-            room = 1 + _MOST_AHEAD * len(self._copies) - (given - shown)
-            while self._again or (room > 0 and not is_over):
-                idle = next((it for it in self._copies if it.piece is None), None)
-                if self._copies and idle is None:
-                    break
-                piece = next(numbered, None) if not self._again else self._again.pop()
-                if piece is None:
-                    is_over = True
-                    continue
-                if piece[0] == given:
-                    given, room = given + 1, room - 1
-                if idle is not None:
-                    idle.give(piece)
-                else:
-                    done[piece[0]] = (piece[1], None)
-            if shown not in done and shown < given:
-                done.update(self._ready())
-            while shown in done:
-                yield done.pop(shown)
-                shown += 1
-
-    def _ready(self) -> Iterator[tuple[int, tuple[bytes, Optional[bytes]]]]:
-        """Waits for a result; yields the ones that are there. A copy that was ended gets no more, and
-        another one its piece.
-        """
-        busy = {it.results: it for it in self._copies if it.piece is not None}
-        for handle in _has_come(list(busy)):
-            copy = busy[handle]
-            assert copy.piece is not None
-            (number, piece), copy.piece = copy.piece, None
-            result = copy.result()
-            if copy.has_ended:
-                self._copies.remove(copy)
-                copy.end()
-            if copy.has_ended and number not in self._lost:
-                self._lost.add(number)
-                self._again.append((number, piece))
-            else:
-                yield number, (piece, result)
-
-
-class Alone(Copies):
-    """This process in place of copies of it."""
-
-    def __init__(self, work: Work):
-        super().__init__(work, 0)
-        self._work: Optional[Work] = work
-
-    def stop(self) -> None:
-        """The pieces that are left have no results."""
-        self._work = None
-
-    def results(self, pieces: Iterator[bytes]) -> Iterator[tuple[bytes, Optional[bytes]]]:
-        """Yields each piece with its result; without one, where the work failed on it."""
+        given: deque[tuple[bytes, Future[Optional[bytes]]]] = deque()
         for piece in pieces:
-            result = None
-            with suppress(Exception):
-                result = self._work(piece) if self._work is not None else None
-            yield piece, result
+            given.append((piece, self._threads.submit(self._result, piece)))
+            if len(given) > _MOST_AHEAD * len(self._copies):
+                first, result = given.popleft()
+                yield first, result.result()
+        for first, result in given:
+            yield first, result.result()
+
+    def _result(self, piece: bytes) -> Optional[bytes]:
+        """Returns the result of a piece by the next copy that has none."""
+        for _ in range(_TRIES):
+            copy = self._idle.get()
+            if copy is None:
+                self._idle.put(None)
+                break
+            try:
+                result = copy.result(piece)
+                self._idle.put(copy)
+                return result
+            except (EOFError, OSError):
+                self._end(copy)
+        return None
+
+    def _end(self, copy: _Copy) -> None:
+        with self._lock:
+            copy.end()
+            self._left -= 1
+            if not self._left:
+                self._idle.put(None)

@@ -5,7 +5,7 @@ import os
 import re
 from collections.abc import Iterable, Iterator, Mapping
 from contextlib import suppress
-from typing import NamedTuple, Optional
+from typing import NamedTuple
 
 from pops_companions import places
 from pops_companions.many.program import MissingError, without_script

@@ -18,6 +18,7 @@ import zlib
 from collections.abc import Callable, Iterable, Iterator, Sequence
 from typing import TYPE_CHECKING, NamedTuple, Optional, Union
 
+from pops_companions.command import CommandError, Status
 from pops_companions.many.tasks import UNFINISHED, Result, Source
 from pops_companions.report import lines
 
@@ -42,8 +43,11 @@ _OPEN = os.O_RDWR | os.O_NOFOLLOW | os.O_CLOEXEC
 _Report = Union[bytes, memoryview]
 
 
-class JournalError(Exception):
+class JournalError(CommandError):
     """A journal that isn't there, is in use, or belongs to no run or to another one."""
+
+    def __init__(self, message: str):
+        super().__init__(Status.USAGE, message)
 
 
 class Kept(NamedTuple):

@@ -20,7 +20,7 @@ from typing import Optional
 from pops_companions import places
 from pops_companions.input.words import short_forms
 from pops_companions.many.bundles import items_in, neighbours, text_of
-from pops_companions.many.parallel import Ended, Jobs, Parallel, machine_of
+from pops_companions.many.parallel import Ended, Jobs, MachinesError, Parallel, machine_of
 from pops_companions.many.part_program import PartProgram
 from pops_companions.many.parts import Part
 from pops_companions.many.program import FAULTY, SOUND, Program, RunError
@@ -62,6 +62,7 @@ _PROGRAMS = ("pops", "pops-part")
 NO_REPORT_IN_TIME = "no report came back in {:g} s"
 _WITHOUT_LIMIT = "-"
 _STATUS_OUT_OF_TIME = 124
+_STATUS = re.compile(rb"[0-9]{1,3}")
 # The most problems of a login, and the fewest logins of each place.
 _PROBLEMS_AT_A_LOGIN = 20
 _LOGINS_OF_A_PLACE = 10
@@ -82,10 +83,6 @@ _STIPULATION = re.compile(
 )
 # The most half-moves of a small problem, by who helps whom.
 _MOST_HALF_MOVES = {b"": 5, b"s": 4, b"h": 5}
-
-
-class MachinesError(Exception):
-    """Other machines can't be used at all, with the reason."""
 
 
 def coded(text: bytes) -> str:
@@ -138,14 +135,22 @@ def seconds_of(logins: Sequence[Sequence[str]]) -> Optional[int]:
     return _SECONDS_OF_A_LOGIN + math.ceil(max((sum(map(float, it)) for it in limits), default=0.0))
 
 
-def _decoded(line: bytes) -> Optional[tuple[int, int, bytes]]:
-    """Returns number, status and report of a line that came back; None where it was cut."""
+def decoded(line: bytes) -> Optional[tuple[int, bytes]]:
+    """Returns the number and the text of a line that came back; None where it was cut."""
     number, _, text = line.rstrip(b"\n").partition(b" ")
     try:
-        report, _, ended = base64.b64decode(text, validate=True).rpartition(b"\n")
-        place, status = int(number), int(ended)
+        return int(number), base64.b64decode(text, validate=True)
     except (binascii.Error, ValueError):
         return None
+
+
+def _answer_of(line: bytes) -> Optional[tuple[int, int, bytes]]:
+    """Returns number, status and report of a line that came back; None where it was cut."""
+    place, text = decoded(line) or (0, b"")
+    report, _, ended = text.rpartition(b"\n")
+    if not _STATUS.fullmatch(ended):
+        return None
+    status = int(ended)
     return place, UNFINISHED if status == _STATUS_OUT_OF_TIME else status, report
 
 
@@ -207,7 +212,7 @@ class _Round:
 
     def take(self, line: bytes) -> None:
         """Takes a line that came back."""
-        answer = _decoded(line)
+        answer = _answer_of(line)
         if answer is None or answer[0] not in self._bundles or answer[0] in self.done:
             return
         place, status, report = answer
@@ -251,7 +256,7 @@ class _Probe:
     def take(self, line: bytes) -> None:
         """Takes a line that came back."""
         self._come += len(line)
-        answer = _decoded(line)
+        answer = _answer_of(line)
         if answer is not None:
             self._answers[answer[0]] = answer[1:]
 
@@ -286,16 +291,12 @@ class _Probe:
 
 
 def _wanted_of(pops: Program, parts: Optional[PartProgram]) -> list[bytes]:
-    """Returns what the programs here report of the probe. MachinesError where one fails."""
-    try:
-        wanted = [pops.report(PROBE, SECONDS_OF_A_PROBE_HERE)]
-        if parts is not None:
-            task = tasks_of([Source(None, PROBE)])[0]
-            part = Part(task, "play", 1, parts.depth)
-            wanted.append(parts.report(part, SECONDS_OF_A_PROBE_HERE))
-        return wanted
-    except RunError as error:
-        raise MachinesError(str(error)) from None
+    """Returns what the programs here report of the probe. RunError where one fails."""
+    wanted = [pops.report(PROBE, SECONDS_OF_A_PROBE_HERE)]
+    if parts is not None:
+        part = Part(tasks_of([Source(None, PROBE)])[0], "play", 1, parts.depth)
+        wanted.append(parts.report(part, SECONDS_OF_A_PROBE_HERE))
+    return wanted
 
 
 class Machines:
@@ -313,7 +314,7 @@ class Machines:
         """Probes each machine, and leaves out those that fail. `names` are the ones of the programs there:
         of pops, and of pops-part where it is needed.
 
-        MachinesError where no machine is left, or a program here fails.
+        MachinesError where no machine is left, RunError where a program here fails.
         """
         self._say = say
         self._parallel = parallel

@@ -6,24 +6,24 @@ each job knows its number from GNU parallel, and a file of this number stops it.
 
 import os
 import re
-import select
 import shlex
 import shutil
 import signal
 import subprocess
+import tempfile
 import threading
 import time
 from collections.abc import Callable, Iterable, Iterator, Sequence
 from pathlib import Path
 from typing import IO, NamedTuple, Optional
 
+from pops_companions.command import DeviceError
 from pops_companions.many import sessions
 from pops_companions.many.child_process import (
     MOST_OUTPUT,
     ChildProcess,
     outcome_of,
     refuse_unlisted,
-    rest_of,
 )
 from pops_companions.many.connections import Connections
 
@@ -34,7 +34,6 @@ _LOOKS = 100
 _SECONDS_BETWEEN_KILLS = 0.02
 # The last bytes of what ssh and GNU parallel said: only the last line is shown.
 _MOST_OF_ERRORS = 1 << 16
-_MILLISECONDS_BETWEEN_READS = 300
 # The most bytes that come from a login, of which GNU parallel keeps a line in memory.
 _MOST_OF_A_LOGIN = 1 << 29
 # The most bytes of a line that comes back, which is a report in base64; a longer one is dropped.
@@ -45,10 +44,11 @@ UNLESS_OVER = '[ ! -e "$PARALLEL_HOME/over-$PARALLEL_SEQ" ] || exit 0; '
 _NUMBER = "PARALLEL_SEQ"
 _OF_A_JOB = re.compile(rb"%s=" % _NUMBER.encode("ascii"))
 # In place of ssh. Where GNU parallel asks a machine how many jobs it takes, five bytes are read, and
-# more than 256 are as many as 256: it tries that many logins at once. Other logins have a limit, and
+# more than 256 are as many as 256: it tries that many logins at once. (What ssh says there, it says
+# again at the first login.) Other logins have a limit, and
 # what ssh says is a file of at most 2048 blocks: one more byte ends ssh. A line that is cut has an end.
 _LOGIN = """case $* in *"parallel --number-of-"*)
-  number=$({ssh} "$@" < /dev/null | head -c 5)
+  number=$({ssh} "$@" < /dev/null 2> /dev/null | head -c 5)
   case $number in "" | *[!0-9]* | ?????*) exit 0 ;; esac
   [ "$number" -le 256 ] || number=256
   echo "$number"
@@ -66,8 +66,8 @@ exit "$status"
 """
 
 
-class ParallelError(Exception):
-    """GNU parallel can't be used, with the reason."""
+class MachinesError(DeviceError):
+    """Other machines can't be used, with the reason."""
 
 
 class Jobs(NamedTuple):
@@ -127,11 +127,11 @@ class Parallel:
     """GNU parallel, with `jobs` jobs at a time on each machine."""
 
     def __init__(self, jobs: Optional[int], ssh: Optional[str], say: Callable[[str], None]):
-        """Finds GNU parallel. ParallelError where it isn't installed: another program has its name."""
+        """Finds GNU parallel. MachinesError where it isn't installed: another program has its name."""
         self._say = say
         parallel = shutil.which("parallel")
         if parallel is None or not _is_gnu(parallel):
-            raise ParallelError("--sshlogin needs GNU parallel: install Debian's package parallel")
+            raise MachinesError("--sshlogin needs GNU parallel: install Debian's package parallel")
         self.jobs = jobs
         self._words = [parallel, "--plain", "--will-cite", "--line-buffer"]
         self._words += ["--jobs", str(jobs)] if jobs else []
@@ -140,7 +140,8 @@ class Parallel:
         # About the run at hand.
         self._room: Optional[Path] = None
         self._child: Optional[ChildProcess] = None
-        self._said = b""
+        # What ssh and GNU parallel say.
+        self._said = tempfile.TemporaryFile(buffering=0)
 
     def run(
         self,
@@ -162,16 +163,13 @@ class Parallel:
             _write_logins(room, logins)
             child = self._started(room, jobs, self._connections.options if shared else "")
             is_stopped = threading.Event()
-            with sessions.watched(child.run.pid, name):
+            with sessions.Watcher(child.run.pid, name):
                 looks = threading.Thread(target=_look, args=(child, room, logins, look, is_stopped))
-                errors = threading.Thread(target=self._hear, args=(child,))
                 looks.start()
-                errors.start()
                 try:
                     _take_all(child, take)
                 finally:
                     looks.join()
-                    errors.join()
                     assert child.run.stdout is not None
                     child.run.stdout.close()
                     child.release()
@@ -187,13 +185,16 @@ class Parallel:
         (room / "ssh").write_bytes(os.fsencode(command))
         words = self._command(room, jobs)
         refuse_unlisted(words[0])
-        child = ChildProcess(words, subprocess.DEVNULL, subprocess.PIPE, _environment(room))
-        self._room, self._child, self._said = room, child, b""
+        self._said.seek(0)
+        self._said.truncate()
+        child = ChildProcess(words, subprocess.DEVNULL, self._said, _environment(room))
+        self._room, self._child = room, child
         return child
 
     def close(self) -> None:
         """Ends the connections that logins share."""
         self._connections.close()
+        self._said.close()
 
     def _command(self, room: Path, jobs: Jobs) -> list[str]:
         limit = [] if jobs.seconds is None else ["--timeout", str(jobs.seconds)]
@@ -226,24 +227,12 @@ class Parallel:
         # (one that is about to become another program has no environment)
         return bool(found) or [b""] in environments.values()
 
-    def _hear(self, child: ChildProcess) -> None:
-        """Keeps the end of what ssh and GNU parallel say, until GNU parallel has ended."""
-        assert child.run.stderr is not None
-        with child.run.stderr as errors:
-            ready = select.poll()
-            ready.register(errors, select.POLLIN)
-            while child.run.poll() is None:
-                if ready.poll(_MILLISECONDS_BETWEEN_READS):
-                    piece = os.read(errors.fileno(), _MOST_OF_ERRORS)
-                    if not piece:
-                        return
-                    self._said = (self._said + piece)[-_MOST_OF_ERRORS:]
-            self._said = (self._said + rest_of(errors.fileno()))[-_MOST_OF_ERRORS:]
-
     @property
     def last_error(self) -> str:
         """The last line that ssh or GNU parallel said in the last run or the one at hand."""
-        said = self._said.decode("utf-8", "replace").strip().splitlines()
+        handle = self._said.fileno()
+        begin = max(os.fstat(handle).st_size - _MOST_OF_ERRORS, 0)
+        said = os.pread(handle, _MOST_OF_ERRORS, begin).decode("utf-8", "replace").strip().splitlines()
         return said[-1] if said else "no report came back"
 
 

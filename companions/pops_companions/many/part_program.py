@@ -150,4 +150,4 @@ class PartProgram(Runs):
 
     def is_over(self, part: Part) -> bool:
         """Returns whether a failed part was stopped on purpose."""
-        return self._stopped or part.key in self._dropped
+        return self.is_stopped or part.key in self._dropped

@@ -4,15 +4,16 @@ import os
 import signal
 import subprocess
 import threading
-from collections.abc import Callable, Generator, Sequence
+from collections.abc import Callable, Generator, Iterator, Sequence
 from contextlib import closing
-from typing import IO, Optional
+from typing import IO, NoReturn, Optional
+from weakref import WeakSet
 
 from pops_companions import places
+from pops_companions.command import DeviceError
 from pops_companions.many.bundle_run import BundleRun, Came
 from pops_companions.many.bundles import Bundles
 from pops_companions.many.child_process import (
-    MOST_OUTPUT,
     MOST_ROOM,
     MOST_SPOOLED,
     PAUSE,
@@ -55,11 +56,11 @@ LOOKED_FOR = (
 )
 
 
-class MissingError(Exception):
+class MissingError(DeviceError):
     """No program was found, with what to do."""
 
 
-class RunError(Exception):
+class RunError(DeviceError):
     """A run that came to no end, with the reason."""
 
 
@@ -67,56 +68,57 @@ class OutputRunError(RunError):
     """A run whose output can't be kept: another one would end in the same way."""
 
 
-def named_program(named: Optional[str], variable: str) -> Optional[str]:
-    """Returns the program that is named, or that a variable names; None where neither names one.
-
-    MissingError where it is nowhere.
+def first_found(
+    name: str, named: Optional[str], others: Iterator[Optional[str]]
+) -> Optional[str]:
+    """Returns the program that is named, else the one of its variable, as $POPS_PART for pops-part, else
+    the first of others. MissingError where one that is named is nowhere.
     """
-    named = named or os.environ.get(variable)
-    found = places.found(named) if named else None
+    named = named or os.environ.get(name.upper().replace("-", "_"))
+    found = places.found(named) if named else next(filter(None, others), None)
     if named and found is None:
         raise MissingError(f"there is no program {named}")
-    return found
+    return found and without_script(found, name)
 
 
 def find(named: Optional[str]) -> str:
     """Finds the program as LOOKED_FOR says; builds none. MissingError where it is nowhere."""
-    if found := named_program(named, "POPS"):
-        return without_script(found)
-    found = _of_sources(REPOSITORY, "pops") or _beside() or places.found("pops")
-    if found is not None:
-        return without_script(found)
-    if _is_repository(REPOSITORY):
-        raise _unbuilt(REPOSITORY)
-    raise MissingError("there is no program pops: name it with --pops")
 
+    def others() -> Iterator[Optional[str]]:
+        yield _of_sources(REPOSITORY, "pops")
+        # (as ./install and pip install it)
+        if COMPANIONS.endswith("/share/pops/companions"):
+            yield places.found(os.path.join(folder_above(COMPANIONS, 3), "bin", "pops"))
+        else:
+            yield places.program("pops")
+        yield places.found("pops")
 
-def _beside() -> Optional[str]:
-    """Returns pops as it was installed with the companions, by ./install or by pip."""
-    if COMPANIONS.endswith("/share/pops/companions"):
-        return places.found(os.path.join(folder_above(COMPANIONS, 3), "bin", "pops"))
-    return places.program("pops")
+    return first_found("pops", named, others()) or _missing("pops", "")
 
 
 def find_part_program(named: Optional[str], pops: str) -> str:
     """Returns the program of parts: as named, $POPS_PART, from the repository of pops or beside it,
     from this repository, or on the PATH.
     """
-    if named_found := named_program(named, "POPS_PART"):
-        return without_script(named_found, "pops-part")
-    folder = folder_above(os.path.realpath(pops))
-    # (built in crates/pops/out, or released in release)
-    above = [folder_above(folder, 3), folder_above(folder)]
-    repositories = [it for it in above if _is_repository(it)]
-    beside = [] if repositories else [places.found(os.path.join(folder, "pops-part"))]
-    repositories.append(REPOSITORY)
-    of_sources = [_of_sources(it, "pops-part") for it in repositories]
-    for found in (*beside, *of_sources, places.found("pops-part")):
-        if found is not None:
-            return without_script(found, "pops-part")
+    name = "pops-part"
+
+    def others() -> Iterator[Optional[str]]:
+        folder = folder_above(os.path.realpath(pops))
+        # (built in crates/pops/out, or released in release)
+        repositories = list(filter(_is_repository, (folder_above(folder, 3), folder_above(folder))))
+        if not repositories:
+            yield places.found(os.path.join(folder, name))
+        for repository in (*repositories, REPOSITORY):
+            yield _of_sources(repository, name)
+        yield places.found(name)
+
+    return first_found(name, named, others()) or _missing(name, ", for --split")
+
+
+def _missing(name: str, use: str) -> NoReturn:
     if _is_repository(REPOSITORY):
-        raise _unbuilt(REPOSITORY, "pops-part")
-    raise MissingError("there is no program pops-part, for --split: name it with --pops-part")
+        raise _unbuilt(REPOSITORY, name)
+    raise MissingError(f"there is no program {name}{use}: name it with --{name}")
 
 
 def _is_repository(folder: str) -> bool:
@@ -132,7 +134,7 @@ def _of_sources(repository: str, name: str) -> Optional[str]:
     return os.fsdecode(found.output).removesuffix("\n") or None
 
 
-def without_script(found: str, name: str = "pops") -> str:
+def without_script(found: str, name: str) -> str:
     """Returns what was found; for a repository's script, which may build, the program of its
     sources.
     """
@@ -145,7 +147,7 @@ def without_script(found: str, name: str = "pops") -> str:
     return program
 
 
-def _unbuilt(repository: str, name: str = "pops") -> MissingError:
+def _unbuilt(repository: str, name: str) -> MissingError:
     words = [f"{repository}/{name}", f"{repository}/examples/mate_in_one.pop"]
     if name != "pops":
         words.insert(1, "--list")
@@ -161,9 +163,10 @@ class Runs:
     def __init__(self, name: str, words: Sequence[str]):
         self._name = name
         self._words = list(words)
-        self._running: set[ChildProcess] = set()
+        # (who has read a run to its end drops it, and then it is none of these)
+        self._running: WeakSet[ChildProcess] = WeakSet()
         self._lock = threading.Lock()
-        self._stopped = False
+        self.is_stopped = False
         # Looks whether the program is another one now.
         self.look: Callable[[], object] = lambda: None
 
@@ -176,7 +179,7 @@ class Runs:
     ) -> ChildProcess:
         """Starts it with more words."""
         with self._lock:
-            if self._stopped:
+            if self.is_stopped:
                 raise RunError("stopped")
             try:
                 refuse_unlisted(self._words[0])
@@ -201,9 +204,6 @@ class Runs:
             return child.outcome(text, seconds, spooled_if)
         except OSError as error:
             raise OutputRunError(f"{self._name} was ended: {error.strerror}") from None
-        finally:
-            with self._lock:
-                self._running.discard(child)
 
     def outcome(
         self,
@@ -236,13 +236,9 @@ class Runs:
         pause: Callable[[], int] = lambda: PAUSE,
     ) -> Generator[bytes, None, None]:
         """Yields what a run writes, as `ChildProcess.pieces` does."""
-        try:
-            with closing(child.pieces(text, pause=pause)) as pieces:
-                for _, piece in pieces:
-                    yield piece
-        finally:
-            with self._lock:
-                self._running.discard(child)
+        with closing(child.pieces(text, pause=pause)) as pieces:
+            for _, piece in pieces:
+                yield piece
 
     def why(self, child: ChildProcess, errors: IO[bytes]) -> str:
         """Returns why a run that was begun failed, with the first of what it said."""
@@ -261,7 +257,7 @@ class Runs:
     def stop(self) -> None:
         """Ends all runs at hand; later ones are refused."""
         with self._lock:
-            self._stopped = True
+            self.is_stopped = True
             for child in self._running:
                 child.kill()
 
@@ -289,15 +285,11 @@ class Program(Runs):
     def solve_bundle(self, bundle: Sequence[Task], bundles: Bundles) -> Came:
         """Runs a bundle in one process; what it doesn't solve goes back to the bundles."""
         child = self._started([], subprocess.PIPE, subprocess.DEVNULL)
-        try:
-            if len(self._running) <= _MOST_WITH_ROOM:
-                has_room(child.run.stdout, MOST_ROOM)
-            if self.seconds is not None:
-                child.limit(self.seconds * len(bundle))
-            return BundleRun(child, bundle, self.seconds, bundles).go()
-        finally:
-            with self._lock:
-                self._running.discard(child)
+        if len(self._running) <= _MOST_WITH_ROOM:
+            has_room(child.run.stdout, MOST_ROOM)
+        if self.seconds is not None:
+            child.limit(self.seconds * len(bundle))
+        return BundleRun(child, bundle, self.seconds, bundles).go()
 
     def told_anew(self, task: Task, status: int, report: bytes) -> Result:
         """Returns the result of a first run; for the line of a fault it runs the problem again, here.

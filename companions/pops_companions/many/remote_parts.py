@@ -4,8 +4,6 @@ A machine also needs pops-part, and MIME::Base64 of perl. Parts go out as proble
 writes comes back line by line, as soon as it is written, and last how it ended.
 """
 
-import base64
-import binascii
 import re
 from collections.abc import Callable, Iterable, Iterator, Sequence
 from typing import NamedTuple, Optional
@@ -16,6 +14,7 @@ from pops_companions.many.machines import (
     Machines,
     Watch,
     coded,
+    decoded,
     logins_of,
 )
 from pops_companions.many.parallel import UNLESS_OVER, Ended, Jobs, Parallel, machine_of
@@ -44,15 +43,6 @@ _MOST_HELD = 4 * MOST_OUTPUT
 def _word(number: int, part: Part) -> str:
     """Returns a part as the script takes it."""
     return f"{number} {part.phase} {part.number} {coded(part.text)}"
-
-
-def _decoded(line: bytes) -> Optional[tuple[int, bytes]]:
-    """Returns the number of a part, and what it wrote; None where the line was cut."""
-    number, _, text = line.partition(b" ")
-    try:
-        return int(number), base64.b64decode(text.rstrip(b"\n"), validate=True)
-    except (binascii.Error, ValueError):
-        return None
 
 
 class Handling(NamedTuple):
@@ -124,10 +114,9 @@ class _Round:
 
     def take(self, line: bytes) -> None:
         """Takes a line that came back."""
-        decoded = _decoded(line)
-        if decoded is None or decoded[0] not in self._open or decoded[0] in self._flooded:
+        number, text = decoded(line) or (-1, b"")
+        if number not in self._open or number in self._flooded:
             return
-        number, text = decoded
         ended = _ENDED.fullmatch(text)
         if ended is not None:
             self._open.remove(number)

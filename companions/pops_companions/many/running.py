@@ -21,18 +21,12 @@ if TYPE_CHECKING:
 _FAILURES_TOLD = 10
 
 
-class PartPrograms(NamedTuple):
-    """The programs that problems in parts need: pops with --check, pops-part."""
-
-    checking: Program
-    parts: "PartProgram"
-
-
 class Programs(NamedTuple):
-    """The programs on this machine."""
+    """The programs on this machine: pops, and for problems in parts pops with --check and pops-part."""
 
     whole: Program
-    parts: Optional[PartPrograms]
+    checking: Optional[Program] = None
+    parts: "Optional[PartProgram]" = None
 
 
 class Elsewhere(NamedTuple):
@@ -61,11 +55,11 @@ class Run:
         self._progress = progress
         self._program = programs.whole
         self._splitting: "Optional[Splitting]" = None
-        if programs.parts is not None:
+        if programs.checking is not None and programs.parts is not None:
             from pops_companions.many.splitting import Splitting
 
-            checking, parts = programs.parts
-            self._splitting = Splitting(checking, parts, journal, progress, self._settle)
+            cutting = programs.checking, programs.parts
+            self._splitting = Splitting(*cutting, journal, progress, self._settle)
             joined.in_parts = self._splitting.lines_found
         # (all where nothing is kept: then they are neighbours)
         left = tasks.places

@@ -14,7 +14,7 @@ import sys
 import threading
 import time
 from collections.abc import Callable, Collection, Iterator
-from contextlib import closing, contextmanager, suppress
+from contextlib import contextmanager, suppress
 
 _SECONDS_BETWEEN = 0.05
 _ROUNDS = 100
@@ -188,18 +188,10 @@ def passing_folder(prefix: str) -> Iterator[str]:
             raise
 
 
-@contextmanager
-def watched(session: int, folder: str) -> Iterator[None]:
-    """Ends the session, unless it is 0, and the connections in the folder, and removes the folder, if
-    this process is killed meanwhile.
-    """
-    with closing(Watcher(session, folder)):
-        yield
-
-
 class Watcher:
-    """A process that ends a session, as `watched` does, what has a mark and what holds a pipe, if this
-    process is killed before `close`. If it is killed alone, another takes its place.
+    """A process that ends a session, unless it is 0, what has a mark, what holds a pipe and the
+    connections in a folder, and removes this, if this process is killed before `close` or the end of a
+    block. If it is killed alone, another takes its place.
     """
 
     def __init__(self, session: int, folder: str = "", mark: str = "", pipe: str = ""):
@@ -213,6 +205,12 @@ class Watcher:
         # (where there are no more threads, nobody sees to it)
         with suppress(RuntimeError):
             threading.Thread(target=self._replace, daemon=True).start()
+
+    def __enter__(self) -> None:
+        pass
+
+    def __exit__(self, *_: object) -> None:
+        self.close()
 
     def _started(self) -> "subprocess.Popen[bytes]":
         return subprocess.Popen(

@@ -2,13 +2,13 @@
 
 import threading
 from collections.abc import Callable, Iterator, Sequence
-from functools import partial
 from typing import Optional
 
 from pops_companions.many.batches import Batch, Batches
 from pops_companions.many.journal import Journal
 from pops_companions.many.local import TRIES, in_threads
-from pops_companions.many.machines import Machines, MachinesError
+from pops_companions.many.machines import Machines
+from pops_companions.many.parallel import MachinesError
 from pops_companions.many.part_program import PartProgram
 from pops_companions.many.parts import Key, Part, PartsError, head_of, limit_of
 from pops_companions.many.program import SOUND, Program, RunError
@@ -37,9 +37,8 @@ class Splitting:
         self._problems: dict[int, SplitProblem] = {}
         self._failed: dict[int, tuple[Task, str]] = {}
         # The parts that are handed out on this machine: several threads go through them.
-        self._batches: Optional[Batches] = None
+        self._batches = Batches([], self._is_alone)
         self._lock = threading.Lock()
-        self._is_stopped = False
 
     @property
     def failed(self) -> list[tuple[Task, str]]:
@@ -115,7 +114,7 @@ class Splitting:
         def how_far() -> HowFar:
             done, moves = problem.first_moves
             left = self._parts_left()
-            at_work = self._batches.seconds_at_work if self._batches is not None else ()
+            at_work = self._batches.seconds_at_work
             return HowFar(done, moves, problem.is_by_first_moves, problem.found, left, at_work)
 
         self._progress.part(problem.task.shown, how_far)
@@ -123,6 +122,9 @@ class Splitting:
     def _parts_left(self) -> int:
         tallies = [problem.tally for problem in self._problems.values()]
         return sum(of_all - done for done, of_all in tallies)
+
+    def _is_alone(self, part: Part) -> bool:
+        return self._problems[part.task.place].is_limited
 
     def _is_needless(self, part: Part) -> bool:
         return self._problems[part.task.place].is_needless(part)
@@ -156,26 +158,21 @@ class Splitting:
         self._finish(Result(task, SOUND, report))
 
     def _run_here(self, parts: Sequence[Part], jobs: int) -> None:
-        self._batches = Batches(parts, lambda part: self._problems[part.task.place].is_limited)
-        in_threads(partial(self._work, self._batches), min(jobs, len(parts)), self._stop)
+        self._batches = Batches(parts, self._is_alone)
+        in_threads(self._work, min(jobs, len(parts)), self._program.stop)
 
-    def _stop(self) -> None:
-        """Ends all runs on parts, and begins none."""
-        self._is_stopped = True
-        self._program.stop()
+    def _next_batch(self) -> Optional[Batch]:
+        with self._lock:
+            return None if self._program.is_stopped else self._batches.next(self._is_needless)
 
-    def _work(self, batches: Batches) -> None:
+    def _work(self) -> None:
         """Goes through batches as long as there are any."""
-        while True:
+        while (batch := self._next_batch()) is not None:
+            self._go_through(batch)
             with self._lock:
-                batch = None if self._is_stopped else batches.next(self._is_needless)
-            if batch is None:
-                return
-            self._go_through(batch, batches)
-            with self._lock:
-                batches.end(batch)
+                self._batches.end(batch)
 
-    def _go_through(self, batch: Batch, batches: Batches) -> None:
+    def _go_through(self, batch: Batch) -> None:
         """Takes what comes of the parts of a batch.
 
         A part that fails is tried again with the parts after it, and then skipped.
@@ -184,7 +181,7 @@ class Splitting:
         while batch:
             try:
                 for part, report in self._program.reports(batch):
-                    self._take(part, report, batches)
+                    self._take(part, report)
                     tried = 0
             except RunError as error:
                 tried += 1
@@ -198,11 +195,11 @@ class Splitting:
                 if is_over:
                     return
 
-    def _take(self, part: Part, report: bytes, batches: Batches) -> None:
+    def _take(self, part: Part, report: bytes) -> None:
         """Keeps what came of a part, and stops the runs whose parts no longer matter by it."""
         with self._lock:
             if self._keep(part, report):
-                for left in batches.at_work:
+                for left in self._batches.at_work:
                     if left and all(map(self._is_needless, left)):
                         self._program.drop(left[0])
 

@@ -5,8 +5,7 @@ known of unfinished problems.
 import os
 import re
 import stat
-from collections.abc import Iterator
-from contextlib import contextmanager
+from contextlib import AbstractContextManager
 from typing import BinaryIO
 
 from pops_companions import files
@@ -43,16 +42,11 @@ class Target:
 
     def try_out(self) -> None:
         """Removes what the run left. OSError where the file couldn't be written."""
-        if os.path.isdir(self._real):
-            raise IsADirectoryError(None, "Is a directory")
-        if not self.is_device:
-            files.try_out(self._temporary, self._real)
+        files.try_out(self.path, self._temporary, self._links)
 
-    @contextmanager
-    def opened(self) -> Iterator[BinaryIO]:
+    def opened(self) -> AbstractContextManager[BinaryIO]:
         """The file, open for writing; one that fails leaves what stood there before."""
-        with files.written_whole(self.path, self._temporary, self._links) as file:
-            yield file
+        return files.written_whole(self.path, self._temporary, self._links)
 
 
 class UnfinishedTarget(Target):

@@ -1,11 +1,11 @@
 """The program pops-tries, which shows tries and threats: where it is."""
 
-from collections.abc import Sequence
+from collections.abc import Iterator, Sequence
 from pathlib import Path
 from typing import Optional
 
 from pops_companions import places
-from pops_companions.many.program import RunError, Runs, named_program
+from pops_companions.many.program import RunError, Runs, find, first_found
 from pops_companions.many.tasks import has_ended
 
 TRIES_LOOKED_FOR = (
@@ -13,17 +13,17 @@ TRIES_LOOKED_FOR = (
 )
 
 
-def find_tries(named: Optional[str], pops: str) -> Optional[str]:
-    """Returns the program that shows tries and threats; None where there is none.
-
-    MissingError where the one that is named is nowhere.
+def find_tries(named: Optional[str], pops: Optional[str]) -> Optional[str]:
+    """Returns the program that shows tries and threats, as it goes with the pops that is named; None
+    where there is none. MissingError where one that is named is nowhere.
     """
-    if found := named_program(named, "POPS_TRIES"):
-        return found
-    beside = Path(pops).resolve().parent
-    built = beside.parent.parent / "pops_tries" / "out" / "pops_tries"
-    beside_or_built = (str(beside / "pops-tries"), str(built), "pops-tries")
-    return next(filter(None, map(places.found, beside_or_built)), None)
+
+    def others() -> Iterator[Optional[str]]:
+        beside = Path(find(pops)).resolve().parent
+        built = beside.parent.parent / "pops_tries" / "out" / "pops_tries"
+        yield from map(places.found, (str(beside / "pops-tries"), str(built), "pops-tries"))
+
+    return first_found("pops-tries", named, others())
 
 
 class TriesProgram(Runs):

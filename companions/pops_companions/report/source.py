@@ -202,10 +202,6 @@ class NamedText:
         # The numbers of the problems whose title or author isn't in the encoding.
         self.undecodable: list[int] = []
 
-    def another(self) -> "NamedText":
-        """Returns the same text, of which nothing was read."""
-        return NamedText(self._companion, self._name, self._encoding, self._text)
-
     def items(
         self, pieces: Iterable[bytes], read: Callable[[Iterable[bytes]], Iterator[Read]]
     ) -> Iterator[Read]:

@@ -5,9 +5,9 @@ import os
 from collections.abc import Callable, Iterable, Iterator
 from functools import partial
 from itertools import chain, islice
-from typing import BinaryIO, NamedTuple, Union
+from typing import BinaryIO, NamedTuple
 
-from pops_companions.many.forked import Alone, Copies, can_fork
+from pops_companions.many.forked import Copies, can_fork
 from pops_companions.report.items import AnyItem
 from pops_companions.report.reader import pieces_of, read_unfinished_report
 from pops_companions.report.source import NamedText
@@ -63,9 +63,9 @@ class JudgedReport:
 
     def texts(self, source: BinaryIO) -> Iterator[bytes]:
         """Yields the texts of all problems."""
-        if not is_large(source):
-            return self.texts_of(self.groups(source))
         processors = len(os.sched_getaffinity(0)) if can_fork() else 1
+        if processors == 1 or not is_large(source):
+            return self.texts_of(self.groups(source))
         cutter = Cutter(source, self._beside.given, self._form.encoding, self._form.apart)
         return self._texts_in_pieces(cutter, source, min(processors, _MOST_COPIES))
 
@@ -76,9 +76,7 @@ class JudgedReport:
         The last text of a piece comes after the next problem is judged, as without pieces.
         """
         held = b""
-        alone = Alone(self._another()._result)
-        workers: Union[Alone, Copies] = Copies(self._result, number) if number > 1 else alone
-        with workers as copies:
+        with Copies(self._result, number) as copies:
             results = copies.results(piece.data for piece in cutter.pieces())
             for data, result in results:
                 head, _, texts = (result or b"").partition(b"\n")
@@ -117,10 +115,6 @@ class JudgedReport:
         course, counts = self._course, self._tally.counts
         known = _Known(course.last, course.lacking, counts, self._report.undecodable, held)
         return b"".join([json.dumps(known).encode("ascii"), b"\n", *texts])
-
-    def _another(self) -> "JudgedReport":
-        """Returns another reading of the report, which knows nothing of this one."""
-        return JudgedReport(self._report.another(), self._beside, self._form, Tally())
 
     def _add(self, known: _Known) -> bool:
         """Adds what is known of a piece, unless it lacks too many problems; returns whether it did."""
