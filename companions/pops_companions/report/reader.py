@@ -19,7 +19,7 @@ from pops_companions.report import events, items, lines
 from pops_companions.report.help_lines import HelpState, LineRefused
 from pops_companions.report.item_builder import ItemBuilder
 from pops_companions.report.known_lines import MOST_KNOWN, Form, KnownMoves, KnownNodes
-from pops_companions.report.steps import Needs, board_number
+from pops_companions.report.steps import Needs, board_number, board_of
 from pops_companions.report.tree import Detail, TreeState
 from pops_companions.stored import stored
 
@@ -234,8 +234,7 @@ class ReportReader:
         if line.count(b" ") > 1:
             raise self.refused("a stipulation and at most one condition", line)
         board = items.Board(tuple(self._ranks)) if self._ranks else None
-        ranks = [f"{8 - place} {rank}\n" for place, rank in enumerate(self._ranks)]
-        self._board = board_number("".join(ranks).encode("ascii")) if ranks else None
+        self._board = None if board is None else board_of(board.letters)
         self._begin(stipulation, condition)
         names = (self._title, self._author, board)
         return (events.HeadEvent(self._number, *names, stipulation, condition),)

@@ -315,11 +315,12 @@ def _first_move(first: events.FirstMoveEvent, below: Sequence[events.Event]) -> 
             refutations.append(items.Node(f"    {event.text}", event.move, []))
         elif isinstance(event, events.StalemateEvent):
             is_stalemate = True
-    nodes = (*(it.nodes for it in trees.values()), tuple(refutations))
-    return FirstMove(first.text, first.move, menace, *nodes, is_stalemate)
+    threats, defences = (it.nodes for it in trees.values())
+    below_it = (menace, threats, defences, tuple(refutations), is_stalemate)
+    return FirstMove(first.text, first.move, *below_it)
 
 
-_LINES: dict[type[events.Event], Callable[[Any], str]] = {
+_LINES: dict[type[events.Event], Callable[[Any], object]] = {
     events.NoTriesEvent: lambda _: NO_TRIES,
     events.CheckedEvent: lambda _: lines.SOUND.decode("ascii"),
     events.PhaseEvent: lambda it: it.phase.value,
@@ -338,7 +339,7 @@ _LINES: dict[type[events.Event], Callable[[Any], str]] = {
 def lines_of(event: events.Event) -> list[str]:
     """Returns the lines below a stipulation that an event stands for; `but` has no event."""
     line = _LINES.get(type(event))
-    return [] if line is None else [line(event)]
+    return [] if line is None else [str(line(event))]
 
 
 def read_tries(source: Iterable[bytes]) -> Iterator[TriesReportItem]:

@@ -11,7 +11,7 @@ from pops_companions.input.given_source import read_given
 from pops_companions.report.items import AnyItem, FaultyItem, SoundItem
 from pops_companions.report.source import opened_unfinished_report
 from pops_companions.report.tries import TriesItem, is_of_item
-from pops_companions.review.kept_tries import KnownTries
+from pops_companions.review.kept_text import KnownTries
 from pops_companions.review.judging import Judgement, KeptJudgements, judged, missing
 from pops_companions.review.posing import AnswersError, ShortAnswers
 
