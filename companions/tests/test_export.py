@@ -582,7 +582,7 @@ class Command(unittest.TestCase):
             (["--to", "pgn"], 2),
             (["--to", "popeye", "--report", "x"], 2),
             (["--to", "yaml", "nowhere.pop"], 3),
-            (["--to", "yaml"], 1),
+            (["--to", "yaml"], 3),
         ]
         for words, status in cases:
             with self.subTest(words):

@@ -316,6 +316,22 @@ class Judging(support.InRoom):
                 self.assertEqual((again.status, again.error), (0, ""))
                 self.assertIn("1.Ra8#!", self.articles()[0].words)
 
+    def test_a_status_that_isnt_the_texts(self) -> None:
+        fault = "problem 1\\nline 3: fault 8: bad stipulation\\n\\n"
+        for text, status in ((TRIES_OF_ONE, 1), (fault, 0)):
+            with self.subTest(text):
+                lies = self.tries_until_well("lies", f"cat > /dev/null\nprintf '{text}'\nexit {status}\n")
+                outcome = self.judged("--pops-tries", lies)
+                said = f"problem 1: pops-tries ended with status {status}: its tries and threats are missing"
+                self.assertEqual(outcome.status, 6)
+                self.assertIn(said, outcome.error)
+                self.make_well()
+                self.assertEqual(self.judged("--resume", "--pops-tries", lies), (0, outcome.output, ""))
+        lies = self.script("pops", "cat > /dev/null\nprintf 'problem 1\\n#1\\nplay\\nsolutions: 0\\n\\n'\nexit 1\n")
+        outcome = run_here.companion("pops-many", "--pops", lies, text=ONE + b"EndProblem\n")
+        self.assertEqual((outcome.status, outcome.output), (6, b""))
+        self.assertIn("pops ended with status 1", outcome.error)
+
     def test_tries_of_another_problem_are_told_and_arent_kept(self) -> None:
         men = [b".......k", *[b"........"] * 6, b"R......."]
         board = b"".join(b"%d %s\\n" % (8 - place, rank) for place, rank in enumerate(men)) + b"  abcdefgh\\n"
@@ -624,6 +640,8 @@ class Judging(support.InRoom):
             (f"{self.room}/nowhere/sheet.html", 3, "cannot write"),
             (f"{self.room}/nowhere/new/sheet.html", 3, "cannot write"),
             (f"{self.text}/sheet.html", 3, "cannot write"),
+            # (its folder's name is too long)
+            (f"{self.room}/{252 * 'L'}", 3, "File name too long"),
         ):
             outcome = self.judged("-o", sheet, pops=fails)
             self.assertEqual((outcome.status, outcome.output), (status, b""))

@@ -13,8 +13,11 @@ from unittest import mock
 
 from pops_companions.many import sessions
 from pops_companions.many.connections import Connections
-from pops_companions.many.machines import bundles_of
+from pops_companions.many.machines import PROBE, bundles_of
 from pops_companions.many.parallel import _LOGIN, Ended, Jobs, Parallel
+from pops_companions.many.part_program import PartProgram
+from pops_companions.many.parts import Part
+from pops_companions.many.program import RunError
 from pops_companions.many.tasks import Source, tasks_of
 from tests import run_here, support
 from tests.six_problems import wait_for
@@ -328,6 +331,16 @@ class OnMachines(support.InRoom):
         for many in (words, ["--jobs", "2", *words]):
             with self.subTest(many), mock.patch("pops_companions.many.machines.SECONDS_OF_A_PROBE", 1.0):
                 self.assertEqual(run_here.companion("pops-many", *many), (3, b"", said))
+
+    def test_programs_that_hang_here(self) -> None:
+        (self.room / "x.pop").write_bytes(input_of(MATE.format(1)))
+        hangs = self.write_program("hangs", "#!/bin/sh\nexec sleep 6000\n")
+        limit = mock.patch("pops_companions.many.machines.SECONDS_OF_A_PROBE_HERE", 1.0)
+        with limit:
+            outcome = run_here.companion("pops-many", "--pops", hangs, "--sshlogin", "one", str(self.room / "x.pop"))
+        self.assertEqual(outcome, (3, b"", "pops-many: pops took more than 1 s\n"))
+        with self.assertRaisesRegex(RunError, "^pops-part took more than 1 s$"):
+            PartProgram(hangs, 1).report(Part(tasks_of([Source(None, PROBE)])[0], "play", 1, 1), 1)
 
     def test_a_machine_that_hangs_later_is_left_out(self) -> None:
         """It reports the probe, and each login after it has no end, with its reports or without."""

@@ -6,7 +6,7 @@ from html.parser import HTMLParser
 from pathlib import Path
 from typing import Optional
 
-from tests import support
+from tests import run_here, support
 
 NAMES = {
     "k": "king",
@@ -187,6 +187,16 @@ class Words(unittest.TestCase):
             "pops-page: standard input: title or author of problem 1, and of 1 more, isn't utf-8"
             " and is read as latin-1; --encoding names another\n",
         )
+
+    def test_an_input_that_is_another_text(self) -> None:
+        with tempfile.NamedTemporaryFile(suffix=".pop") as other:
+            for text in (b"", CHECKED, b"\0\xff"):
+                Path(other.name).write_bytes(text)
+                for words in (["pops-page"], ["pops2json"], ["pops-test"], ["pops-diagram", "--svg", "-o", f"{other.name}-"]):
+                    with self.subTest(words, text=text):
+                        outcome = run_here.companion(*words, "--input", other.name, text=CHECKED)
+                        self.assertEqual((outcome.status, outcome.output), (3, b""))
+                        self.assertIn(f"{other.name} is no input of pops: ", outcome.error)
 
     def test_each_article_has_a_link_to_itself(self) -> None:
         faulty = b"problem 2\nline 3: fault 11: no men\n\n"

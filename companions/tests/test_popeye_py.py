@@ -131,7 +131,7 @@ class Command(support.InRoom):
         self.assertEqual(
             outcome.error, "popeye-py: problem 1: left out: pops knows no condition Koeko\n"
         )
-        self.assertEqual(solved("").status, 1)
+        self.assertEqual(solved("").status, 3)
         self.assertEqual(solved("", "/no/such.inp").status, 3)
 
     def test_a_program_that_writes_no_report(self) -> None:

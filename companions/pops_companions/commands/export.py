@@ -85,7 +85,7 @@ def main(words: list[str]) -> Status:
         reading = read_problems(read(settings.file, settings.encoding))
     except Unreadable as error:
         message = f"{name}, line {error.message.line}: {error}"
-        raise CommandError(Status.FAULTY, message) from None
+        raise CommandError(Status.DEVICE, message) from None
     for one in reading.left_out:
         print(f"{NAME}: {name}, {one.text}", file=sys.stderr)
     is_yaml = settings.to == "yaml"

@@ -61,6 +61,9 @@ class Kind(Enum):
     UNREADABLE = "unreadable"
 
 
+_STATUS_OF = {Kind.NOTE: Status.GOOD, Kind.LEFT_OUT: Status.FAULTY, Kind.UNREADABLE: Status.DEVICE}
+
+
 class Told(NamedTuple):
     """A message about a place of a file. `problem` is None for one about the whole file."""
 
@@ -119,7 +122,7 @@ class Import:
     def __init__(self, as_json: bool) -> None:
         self.problems: list[list[str]] = []
         self.entries: list[Entry] = []
-        self.is_whole = True
+        self.status = Status.GOOD
         self._as_json = as_json
         self._rows: list[str] = []
         # Column and length of the text in lines, as far as messages named them.
@@ -159,7 +162,7 @@ class Import:
             self._say(Told(name, line, None, "", Kind.NOTE, text))
 
     def _say(self, told: Told) -> None:
-        self.is_whole = self.is_whole and told.kind is Kind.NOTE
+        self.status = max(self.status, _STATUS_OF[told.kind])
         if self._as_json:
             print(told.json(*self._text_in(told.line)), file=sys.stderr)
         else:
@@ -224,4 +227,4 @@ def main(words: list[str]) -> Status:
         with command.written(settings.index) as target:
             rows = [row_of(COLUMNS), *(entry.row for entry in made.entries)]
             target.write("".join(rows).encode("utf-8", "surrogateescape"))
-    return Status.GOOD if made.is_whole else Status.FAULTY
+    return made.status

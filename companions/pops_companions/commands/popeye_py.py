@@ -167,7 +167,7 @@ def drafts_of(file: Optional[str]) -> list[Draft]:
     except Unreadable as error:
         name = file or "standard input"
         message = f"{name}, line {error.message.line}: {error}"
-        raise CommandError(Status.FAULTY, message) from None
+        raise CommandError(Status.DEVICE, message) from None
 
 
 def write(solver: Solver, draft: Draft, one: Posed) -> Status:

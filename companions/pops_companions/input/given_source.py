@@ -12,9 +12,11 @@ from pops_companions.report.source import is_input
 
 def read_given(companion: str, file: Optional[str]) -> list[GivenProblem]:
     """Returns the problems of an input; what follows its EndProblem is reported on standard error.
+    CommandError where it is no input.
     """
-    text = command.read_all(file)
-    warn_of_rest(companion, file or "standard input", text)
+    name, text = file or "standard input", command.read_all(file)
+    refuse_other_text(name, text)
+    warn_of_rest(companion, name, text)
     return given_problems(text)
 
 

@@ -24,7 +24,7 @@ from pops_companions.many.parallel import Ended, Jobs, Parallel, machine_of
 from pops_companions.many.part_program import PartProgram
 from pops_companions.many.parts import Part
 from pops_companions.many.program import FAULTY, SOUND, Program, RunError
-from pops_companions.many.tasks import UNFINISHED, Result, Source, Task, is_whole, tasks_of
+from pops_companions.many.tasks import UNFINISHED, Result, Source, Task, has_ended, tasks_of
 
 # A longer problem would not fit into a word of a command line; it is solved on this machine.
 _LONGEST_WORD = 60_000
@@ -34,7 +34,7 @@ FAILURES = 2
 ROUNDS_WITHOUT_REPORT = 3
 PROBE = b"BeginProblem Pieces White Kg6 Ra1 Black Kg8 Stipulation #1 EndProblem"
 # Only where a machine hangs: the probe takes a moment, but a busy machine may need many times that.
-SECONDS_OF_A_PROBE = 300.0
+SECONDS_OF_A_PROBE = SECONDS_OF_A_PROBE_HERE = 300.0
 # The most bytes that a machine may write of the probe, whose report has some hundred.
 MOST_OF_A_PROBE = 1 << 20
 # The program is $0; the one word after it holds number, seconds and text of each input in turn.
@@ -214,7 +214,7 @@ class _Round:
         bundle = self._bundles[place]
         if len(bundle) > 1:
             self._take_bundle(bundle, status, report)
-        elif status == UNFINISHED or (status in (SOUND, FAULTY) and is_whole(report)):
+        elif status == UNFINISHED or has_ended(status, report):
             try:
                 self._settle(self._program.told_anew(bundle[0], status, report))
             except RunError:
@@ -288,10 +288,11 @@ class _Probe:
 def _wanted_of(pops: Program, parts: Optional[PartProgram]) -> list[bytes]:
     """Returns what the programs here report of the probe. MachinesError where one fails."""
     try:
-        wanted = [pops.report(PROBE)]
+        wanted = [pops.report(PROBE, SECONDS_OF_A_PROBE_HERE)]
         if parts is not None:
             task = tasks_of([Source(None, PROBE)])[0]
-            wanted.append(parts.report(Part(task, "play", 1, parts.depth)))
+            part = Part(task, "play", 1, parts.depth)
+            wanted.append(parts.report(part, SECONDS_OF_A_PROBE_HERE))
         return wanted
     except RunError as error:
         raise MachinesError(str(error)) from None

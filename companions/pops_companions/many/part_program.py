@@ -37,6 +37,12 @@ def _whole(texts: Sequence[bytes]) -> bytes:
     return report
 
 
+def _words_of(parts: Sequence[Part]) -> list[str]:
+    """Returns the words by which pops-part solves parts of a phase."""
+    words = ["--item", "1", "--phase", parts[0].phase, "--part", numbers_of(parts)]
+    return [*words, "--depth", str(parts[0].depth)]
+
+
 def _pauses(batch: Batch, asked: Sequence[Part]) -> Callable[[], int]:
     """Returns how long a run on a batch may go on unread, in milliseconds, before each piece that
     it writes.
@@ -75,9 +81,12 @@ class PartProgram(Runs):
             raise PartsError(self._reason(run.status, run.errors))
         return phases_listed(run.output)
 
-    def report(self, part: Part) -> bytes:
-        """Returns the report of a part. RunError where the run failed."""
-        return next(self.reports(Batch([part])))[1]
+    def report(self, part: Part, seconds: float) -> bytes:
+        """Returns the report of a part. RunError where the run failed or takes more seconds."""
+        run = self.in_time(_words_of([part]), part.text, seconds)
+        if run.status != SOUND:
+            raise RunError(self._reason(run.status, run.errors))
+        return _whole([run.output])
 
     def reports(self, batch: Batch) -> Iterator[tuple[Part, bytes]]:
         """Yields the parts that are left of a batch, each with its report as it comes, all from one
@@ -86,12 +95,10 @@ class PartProgram(Runs):
         RunError at the first part that didn't come to its end.
         """
         asked = batch.left
-        words = ["--item", "1", "--phase", asked[0].phase, "--part", numbers_of(asked)]
-        words += ["--depth", str(asked[0].depth)]
         written: list[bytes] = []
         left = MOST_OUTPUT
         try:
-            with closing(self._pieces(words, asked[0], _pauses(batch, asked))) as pieces:
+            with closing(self._pieces(_words_of(asked), asked[0], _pauses(batch, asked))) as pieces:
                 for text, is_total in up_to_totals(pieces):
                     written.append(text)
                     left -= len(text)

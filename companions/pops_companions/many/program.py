@@ -29,7 +29,7 @@ from pops_companions.many.tasks import (
     UNFINISHED,
     Result,
     Task,
-    is_whole,
+    has_ended,
     whole_lines,
 )
 from pops_companions.places import COMPANIONS, REPOSITORY, folder_above
@@ -216,6 +216,13 @@ class Runs:
         child = self._started(words, subprocess.PIPE, subprocess.PIPE)
         return self._ended(child, text, seconds, spooled_if)
 
+    def in_time(self, words: Sequence[str], text: bytes, seconds: float) -> Outcome:
+        """Runs it as `outcome` does. RunError where it takes more seconds."""
+        run = self.outcome(words, text, seconds)
+        if not run.in_time:
+            raise RunError(f"{self._name} took more than {seconds:g} s")
+        return run
+
     def begin(self, words: Sequence[str], errors: IO[bytes]) -> ChildProcess:
         """Starts a run that is read piece by piece; what it says goes to a file, up to MOST_ERRORS."""
         child = self._started(words, subprocess.PIPE, errors)
@@ -301,13 +308,13 @@ class Program(Runs):
             return Result(task, status, task.numbered(whole_lines(report)), self.seconds)
         return Result(task, status, task.numbered(report))
 
-    def report(self, text: bytes) -> bytes:
-        """Returns the report of one problem, however long it takes."""
-        return self._of(self.outcome([], text))[1]
+    def report(self, text: bytes, seconds: float) -> bytes:
+        """Returns the report of one problem. RunError where it takes more seconds."""
+        return self._of(self.in_time([], text, seconds))[1]
 
     def _of(self, run: Outcome) -> tuple[int, bytes]:
         """Status and report of a run on one problem; UNFINISHED where its time was over."""
-        if run.status in (SOUND, FAULTY) and is_whole(run.output):
+        if has_ended(run.status, run.output):
             return run.status, run.output
         if not run.in_time:
             return UNFINISHED, run.output
@@ -318,7 +325,7 @@ class Program(Runs):
         size = os.fstat(file.fileno()).st_size
         end = os.pread(file.fileno(), _PIECE, max(size - _PIECE, 0))
         status, seconds = run.status, None
-        if run.status not in (SOUND, FAULTY) or not end.endswith(lines.ITEM_END):
+        if run.status != SOUND or not end.endswith(lines.ITEM_END):
             if run.in_time:
                 raise RunError(self._reason(run.status, run.errors))
             status, seconds = UNFINISHED, self.seconds

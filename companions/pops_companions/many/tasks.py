@@ -119,9 +119,11 @@ class Result(NamedTuple):
     skipped: int = 0
 
 
-def is_whole(report: bytes) -> bool:
-    """Returns whether a run on one problem came to its end: its report is one item."""
-    return report.startswith(HEAD) and report.endswith(lines.ITEM_END)
+def has_ended(status: int, report: bytes) -> bool:
+    """Returns whether a run on one problem came to its end: its report is one item, with this status."""
+    if not (report.startswith(HEAD) and report.endswith(lines.ITEM_END)):
+        return False
+    return status == (Status.GOOD if lines.FAULT.match(report, len(HEAD)) is None else Status.FAULTY)
 
 
 def whole_lines(report: bytes) -> bytes:

@@ -5,8 +5,8 @@ from pathlib import Path
 from typing import Optional
 
 from pops_companions import places
-from pops_companions.many.program import FAULTY, SOUND, RunError, Runs, named_program
-from pops_companions.many.tasks import is_whole
+from pops_companions.many.program import RunError, Runs, named_program
+from pops_companions.many.tasks import has_ended
 
 TRIES_LOOKED_FOR = (
     "the program pops-tries (default: $POPS_TRIES, the one next to pops, the one on the PATH)"
@@ -37,7 +37,7 @@ class TriesProgram(Runs):
         """Returns what it writes of a problem; None where its time was over. RunError where it failed.
         """
         run = self.outcome([], problem, self._seconds)
-        if run.status in (SOUND, FAULTY) and is_whole(run.output):
+        if has_ended(run.status, run.output):
             return run.output
         if not run.in_time:
             return None

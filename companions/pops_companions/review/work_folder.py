@@ -6,6 +6,7 @@ What it keeps has checksums with that of the mark and with the file's name: what
 isn't taken.
 """
 
+import errno
 import fcntl
 import hashlib
 import json
@@ -29,6 +30,8 @@ _OWN = re.compile(
     r"|(?:solutions|short)\.report(?:\.journal|\.unfinished|\.sum)?)(?:\.[0-9a-f]{12})?"
 )
 _FOLDER = os.O_RDONLY | os.O_DIRECTORY | os.O_NOFOLLOW
+# What is said of what is no folder, or a link.
+_NO_FOLDER = (errno.ENOTDIR, errno.ELOOP)
 _SUM = ".sum"
 _FOREIGN = "isn't a folder of pops-judge: remove it, or name another sheet"
 _CHANGED = "has a mark that was changed, or is of another version: remove it"
@@ -64,7 +67,7 @@ def _difference(begun: list[str], now: list[str]) -> str:
         return "is of another text: remove it"
     try:
         before, after = json.loads(program)[0], json.loads(other.partition(" ")[2])[0]
-    except (ValueError, TypeError, LookupError):
+    except (ValueError, TypeError, LookupError, RecursionError):
         return _CHANGED
     if before is None:
         return f"was begun without {name}: remove it"
@@ -115,7 +118,9 @@ class WorkFolder:
             handle = os.open(self.path, _FOLDER)
         except FileNotFoundError:
             return False
-        except OSError:
+        except OSError as error:
+            if error.errno not in _NO_FOLDER:
+                raise
             self._refuse(_FOREIGN)
         close = weakref.finalize(self, os.close, handle)
         try:
