@@ -1,5 +1,6 @@
 // @ts-check
 // The notes below the board.
+import { shortened } from './elements.js';
 
 export class Notes {
   /** @param {HTMLElement} place shows the note */
@@ -12,14 +13,14 @@ export class Notes {
   }
 
   /**
-   * Shows a note until its cause is gone; returns its number.
+   * Shows a note until its cause is gone, of a long one the beginning; returns its number.
    * @param {string} text
    * @param {() => boolean} holds whether the cause is still there
    * @param {boolean} [isOfAction] whether it says what came of an action, and goes when the next one begins
    */
   show(text, holds, isOfAction = false) {
     Object.assign(this, { holds, isOfAction });
-    this.place.textContent = text;
+    this.place.textContent = shortened(text);
     this.number += 1;
     return this.number;
   }

@@ -9,6 +9,8 @@ import { py } from './python.js';
 import { language, say } from './words.js';
 
 const CODING = 'utf-8';
+// The most problems of which it is said why they are left out.
+const MOST_LOST = 100;
 
 /** The texts of a page of diagrams, in the page's language. */
 const PAGE_WORDS = {
@@ -97,8 +99,10 @@ function problemsRead(text) {
 export function yamlOf(text, items) {
   const reading = problemsRead(text);
   const solved = py.dict(items.map(it => [it.number, Object.assign(knownItem(it), it.isWhole ? {} : { unfinished: 'stopped' })]));
-  const lost = reading.left_out.map((/** @type {{ name: string, reasons: string[] }} */ { name, reasons }) => say('lostProblem',
+  const more = reading.left_out.length - MOST_LOST;
+  const lost = reading.left_out.slice(0, MOST_LOST).map((/** @type {{ name: string, reasons: string[] }} */ { name, reasons }) => say('lostProblem',
     { number: name, reason: reasons.map(sayReason).join('; ') }));
+  if (more > 0) lost.push(say('more', { count: more }));
   return { text: [...companions.yamlOf(companions.joined(reading.problems, true, reading.left_out), solved)].join(''), lost };
 }
 

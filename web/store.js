@@ -20,6 +20,7 @@ export const MOST_FILE_BYTES = 1 << 23;
  * @param {string} text
  */
 export function fragmentOf(text) {
+  if (text.length > MOST_LINKED_LETTERS) return null;
   const fragment = `#${new URLSearchParams({ text })}`;
   return fragment.length > MOST_LINKED_LETTERS ? null : fragment;
 }

@@ -11,8 +11,8 @@ from pops_companions.chess.fen import FenError, read_position
 from tests import support
 
 Place = tuple[int, int]
-# The most processor time for a long line: it takes a tenth of it.
-SECONDS = 5.0
+# The most processor time for a long line, of which it takes little; one that grows by the square takes more.
+SECONDS = 60.0
 
 TURNED = ": colours turned round, since the other side starts; --keep-colours leaves them"
 

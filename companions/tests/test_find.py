@@ -219,6 +219,17 @@ class Near(support.InRoom):
         # (once for the whole position, once for the one without its man)
         self.assertLessEqual(looks.call_count, 2 * len(squares))
 
+    def test_equal_questions_are_looked_up_once(self) -> None:
+        problem = "Pieces White Kc8 Ra1 Pb6 Black Ka8 Bb8 Pa7b7\nStipulation #2\n"
+        questions = self.room / "questions.pop"
+        questions.write_text("BeginProblem\n" + "NextProblem\n".join([problem] * 40) + "EndProblem\n")
+        self.assertEqual(run_here.companion("pops-find", self.path, "--add", str(questions)).status, 0)
+        with mock.patch.object(Collection, "near", autospec=True, side_effect=Collection.near) as looks:
+            outcome = run_here.companion("pops-find", self.path, "--near", str(questions))
+        self.assertEqual((outcome.output.count(b"39 problems found"), looks.call_count), (40, 1))
+        with mock.patch("pops_companions.find.boards.Man.of_letter", side_effect=AssertionError):
+            self.assertEqual(differences(board(MORPHY), board(MORPHY)), [])
+
     def test_plain_comparison_of_made_positions(self) -> None:
         """All positions one man apart are found, and no others: each is compared with each."""
         chance = random.Random(61)
@@ -358,6 +369,18 @@ class Play(unittest.TestCase):
             outcome = run_here.companion("pops-find", path, "--play", str(other))
         self.assertEqual((outcome.status, outcome.error), (0, ""))
         self.assertIn(b"    mirrored left to right; the same key and mates\n", outcome.output)
+
+
+class SamePlay(support.InRoom):
+    def test_play_that_is_its_own_mirror_image(self) -> None:
+        """Each problem is found once, and none is compared with the others."""
+        play = "1.Ra1-a8#, 1.Rh1-h8#: Ra1-a8#, Rh1-h8#"
+        self.assertEqual(mirrored_play(play), play)
+        with closing(Collection(str(self.room / "some.db"), new=True)) as collection:
+            collection.add("some.pop", [entry(number, MORPHY, play) for number in range(1, 41)])
+            with mock.patch.object(Entry, "__eq__", side_effect=AssertionError):
+                found = collection.same_play(play)
+        self.assertEqual([(it.entry.number, it.how) for it in found], [(n, ()) for n in range(1, 41)])
 
 
 class Command(support.InRoom):

@@ -616,6 +616,30 @@ class Reasons(unittest.TestCase):
             self.assertRegex(reason, f"^(?:{'|'.join(known)})$")
 
 
+class ManyReasons(unittest.TestCase):
+    """A short text makes no long messages: of many the first are shown, and how many there are."""
+
+    def told(self, pieces: str, *lines: str) -> str:
+        problem = "\n".join((f"Pieces White Kg6 Ra1 Black Kg8 {pieces}", "Stipulation #1", *lines))
+        text = f"BeginProblem\n{problem}\nEndProblem\n"
+        return run_here.companion("pops-import", text=text.encode()).error
+
+    def test_the_first_are_shown(self) -> None:
+        few = self.told("Array " * 2)
+        self.assertTrue(few.endswith("; two men on h1\n"), few[-50:])
+        self.assertNotIn("more", few)
+        many = self.told("Array " * 2700)
+        self.assertTrue(many.startswith("pops-import: standard input, line 2, problem 1: left out: two men"))
+        # (an array has 32 men; the first one fills 30 empty squares)
+        self.assertTrue(many.endswith(f"; and {2700 * 32 - 30 - 100} more\n"), many[-50:])
+        self.assertLess(len(many), 4000)
+
+    def test_notes(self) -> None:
+        many = self.told("", *["Option Try"] * 2000).splitlines()
+        self.assertEqual(len(many), 101)
+        self.assertTrue(many[-1].endswith(", line 104, problem 1: and 1900 more"), many[-1])
+
+
 class WithoutPyYaml(unittest.TestCase):
     def test_yaml_is_refused_and_nothing_else(self) -> None:
         with mock.patch.dict(sys.modules, {"yaml": None}):

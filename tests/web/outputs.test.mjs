@@ -142,6 +142,13 @@ test('outputs: twins are one problem in LaTeX and YAML, and what cannot be posed
   assert.match(left, /^title: "A pair"$/m);
 });
 
+test('outputs: of many problems that are left out of YAML the first are named, and how many there are', () => {
+  const { lost } = yamlOf(`BeginProblem\n${'NextProblem\n'.repeat(299)}EndProblem\n`, []);
+  assert.equal(lost.length, 101);
+  assert.match(lost[99], /100/);
+  assert.equal(lost[100], '200 more');
+});
+
 test('outputs: LaTeX has the date of a source in the language of the page', () => {
   const text = 'BeginProblem\nOrigin Die Schwalbe, 6 February 1971\nPieces White Kg6 Ra1 Black Kg8\nStipulation #1\nEndProblem\n';
   for (const [code, date] of [['en', '6 February 1971'], ['de', '6. Februar 1971'], ['fr', '6 février 1971']]) {

@@ -13,7 +13,7 @@ fill({ ...sharedParts(), example: TEXT, 'fault-words': '{"8": "what the manual s
 const { choreDone } = await import('../../web/chores.js');
 const { comparisonOf } = await import('../../web/compared.js');
 const { Board } = await import('../../web/board.js');
-const { element, makeButton, madeWith, partText } = await import('../../web/elements.js');
+const { element, LONGEST_SHOWN, makeButton, madeWith, partText } = await import('../../web/elements.js');
 const { faultBox } = await import('../../web/faults.js');
 const { makeProblem, move, solveFromHere } = await import('../../web/line.js');
 const { Notes } = await import('../../web/notes.js');
@@ -366,6 +366,47 @@ test('a text that is too long for the page is refused', () => {
     give();
     assert.equal(textNow(), TEXT);
     assert.match(element('note').textContent, /would be longer than 8 MiB/);
+  }
+});
+
+test('a text that is too long for the page is refused in fields and where it is dropped into the text', () => {
+  const long = 'x'.repeat((1 << 23) + 1 - TEXT.length);
+  const field = { closest: () => element('fen') };
+  const types = ['text/plain'];
+  /** Returns how many of these texts the browser is kept from putting in. */
+  const prevented = (name, target, ...texts) => texts.filter(text => {
+    let isPrevented = false;
+    const given = { types, files: [], getData: () => text };
+    begin(TEXT);
+    send(name, { target, clipboardData: given, dataTransfer: given, preventDefault: () => { isPrevented = true; } });
+    return isPrevented;
+  }).length;
+  for (const [name, target] of [['paste', field], ['drop', element('text')]]) {
+    views.note('');
+    assert.equal(prevented(name, target, long), 1);
+    assert.equal(textNow(), TEXT);
+    assert.match(element('note').textContent, /would be longer than 8 MiB/);
+    assert.equal(prevented(name, target, '', 'x'), 0);
+  }
+  const lines = 'x\n'.repeat(20000);
+  assert.equal(prevented('drop', element('text'), lines), 1);
+  assert.equal(textNow().length, TEXT.length + lines.length);
+  assert.ok(element('text').value.length < lines.length);
+});
+
+test('notes: of a long one the beginning is shown', () => {
+  views.note('x'.repeat(1 << 20));
+  assert.equal(element('note').textContent, `${'x'.repeat(LONGEST_SHOWN)}…`);
+  views.note('');
+});
+
+test('store: no link is made of a long text, which takes no time', () => {
+  const { URLSearchParams } = globalThis;
+  globalThis.URLSearchParams = class { constructor() { throw new Error('a long text is written'); } };
+  try {
+    assert.equal(fragmentOf('x'.repeat(30001)), null);
+  } finally {
+    globalThis.URLSearchParams = URLSearchParams;
   }
 });
 

@@ -128,9 +128,9 @@ function pasted(event) {
   const text = (event.clipboardData?.getData('text/plain') ?? '').replace(/^\ufeff/, '');
   const isField = /** @type {Element} */ (event.target).closest?.('input, select');
   const isText = event.target === element('text');
-  if (isField || !text) return;
-  if (isTooLong(isText ? lengthBesideSelection() + text.length : text.length)) event.preventDefault();
-  else takePasted(event, text, isText);
+  if (!text) return;
+  if (isTooLong((isText ? lengthBesideSelection() : isField ? textNow().length : 0) + text.length)) event.preventDefault();
+  else if (!isField) takePasted(event, text, isText);
 }
 
 /**
@@ -168,12 +168,26 @@ function isAmongText() {
 /** @param {DragEvent} event */
 function dropped(event) {
   document.body.classList.remove('dropping');
-  if (!isDroppable(event)) return;
-  event.preventDefault();
   const { dataTransfer } = event;
   const text = dataTransfer?.getData('text/plain') ?? '';
+  if (!isDroppable(event)) {
+    dropIntoText(event, text);
+    return;
+  }
+  event.preventDefault();
   if (dataTransfer?.files.length) takeFiles(dataTransfer.files);
   else if (!isTooLong(text.length)) takeText(text);
+}
+
+/**
+ * Puts a dropped text into the text box's own, where this would take the browser long; a text that is too long is refused.
+ * @param {DragEvent} event
+ * @param {string} text
+ */
+function dropIntoText(event, text) {
+  if (!text || !isLongWith(text)) return;
+  event.preventDefault();
+  if (!isTooLong(lengthBesideSelection() + text.length)) insertLong(text);
 }
 
 /**

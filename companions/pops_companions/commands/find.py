@@ -4,6 +4,7 @@ import os
 import re
 import sqlite3
 import sys
+from functools import lru_cache
 from pathlib import Path
 from typing import Optional
 
@@ -212,9 +213,10 @@ def answers(collection: Collection, settings: Settings) -> list[Answer]:
         return [answer(asked, None, found)]
     entries, _ = entries_in(file, settings.encoding)
     made = []
+    near = lru_cache(maxsize=8)(collection.near)
     for entry in entries:
         if settings.near is not None:
-            hits = collection.near(entry.board)
+            hits = near(entry.board)
         else:
             hits = [] if entry.play is None else collection.same_play(entry.play)
         others = [it for it in hits if it.entry != entry]

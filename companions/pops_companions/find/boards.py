@@ -130,7 +130,12 @@ def differences(board: str, other: str) -> list[str]:
     """Returns what makes another position of a board, in words; the men that go and come are
     paired.
     """
-    changes = Changes(men_of(board), men_of(other))
+    squares = zip(Square.of_diagram(), board, other) if board != other else ()
+    changed = [(square, one, two) for square, one, two in squares if one != two]
+    changes = Changes(
+        {square: Man.of_letter(one) for square, one, _ in changed if one != EMPTY},
+        {square: Man.of_letter(two) for square, _, two in changed if two != EMPTY},
+    )
     texts = [f"{man.on(square)} on {target.name}" for man, square, target in changes.moved()]
     gone = [man.on(square) for square, man in changes.gone.items()]
     new = [man.on(square) for square, man in changes.new.items()]

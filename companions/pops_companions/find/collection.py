@@ -290,14 +290,16 @@ class Collection:
             for one in hashes(variant.board):
                 by_hash.setdefault(one, []).append(variant)
         best: dict[int, Found] = {}
-        for one, number, entry in self._with_hashes(list(by_hash)):
-            found = _simplest(by_hash[one], entry)
+        for one, number, row in self._with_hashes(list(by_hash)):
+            if number in best and _rank(best[number]) == (0, 0):
+                continue
+            found = _simplest(by_hash[one], self._entry_of(row))
             if found is not None and (number not in best or _rank(found) < _rank(best[number])):
                 best[number] = found
         return [best[number] for number in sorted(best, key=lambda it: (*_rank(best[it]), it))]
 
-    def _with_hashes(self, wanted: Sequence[int]) -> Iterator[tuple[int, int, Entry]]:
-        """Yields the problems of these hashes, with hash and number.
+    def _with_hashes(self, wanted: Sequence[int]) -> Iterator[tuple[int, int, Sequence[Any]]]:
+        """Yields the rows of the problems of these hashes, with hash and number.
 
         (Older versions left hashes of problems that are gone.)
         """
@@ -310,7 +312,7 @@ class Collection:
             )
             with closing(self._asked(question, some)) as rows:
                 for one, problem, *row in rows:
-                    yield one, problem, self._entry_of(row)
+                    yield one, problem, row
 
     def _entry_of(self, row: Sequence[Any]) -> Entry:
         """Returns the problem of a row. CollectionError where `add` didn't write it."""
@@ -331,12 +333,11 @@ class Collection:
     def same_play(self, play: str) -> list[Found]:
         """Returns the problems with the same keys and mates, or help lines, mirrored or not."""
         found: list[Found] = []
-        for one, how in ((play, ()), (mirrored_play(play), ("mirrored left to right",))):
+        for one in dict.fromkeys((play, mirrored_play(play))):
+            how = () if one == play else ("mirrored left to right",)
             question = f"SELECT {_COLUMNS} FROM problems WHERE play = ? ORDER BY id"
-            entries = [self._entry_of(row) for row in self._asked(question, (one,))]
-            known = [it.entry for it in found]
-            changes = ("the same key and mates",)
-            found += [Found(entry, how, changes) for entry in entries if entry not in known]
+            for row in self._asked(question, (one,)):
+                found.append(Found(self._entry_of(row), how, ("the same key and mates",)))
         return found
 
 
