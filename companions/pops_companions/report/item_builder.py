@@ -159,20 +159,8 @@ class ItemBuilder(Builder[items.SoundItem]):
         phases = None if self._is_checked else tuple(self._phases)
         return items.SoundItem(*head.parts, phases, unfinished)
 
-    def take_known(
-        self, source: Sequence[bytes], start: int, known: KnownNodes, tree: TreeState
-    ) -> int:
-        """Takes lines of the phase at hand as their events would say them; returns how many."""
-        assert self._growing is not None
-        return self._growing.add_known(source, start, known, tree)
-
-    def take_help_line(self, line: items.HelpLine) -> None:
-        """Takes a line of help play of the phase at hand, as its event would say it."""
-        assert self._growing is not None
-        self._growing.add_line(line)
-
     @property
-    def solutions_so_far(self) -> int:
-        """How many solutions the phase at hand has."""
+    def growing(self) -> GrowingPhase:
+        """The phase at hand, which takes more solutions than its events say."""
         assert self._growing is not None
-        return len(self._growing.solutions)
+        return self._growing

@@ -17,7 +17,7 @@ from typing import Optional
 from pops_companions.chess.stipulation import Condition, Play, Stipulation
 from pops_companions.report import events, items, lines
 from pops_companions.report.help_lines import HelpState, LineRefused
-from pops_companions.report.item_builder import ItemBuilder
+from pops_companions.report.item_builder import GrowingPhase, ItemBuilder
 from pops_companions.report.known_lines import MOST_KNOWN, Form, KnownMoves, KnownNodes
 from pops_companions.report.steps import Needs, board_number, board_of
 from pops_companions.report.tree import Detail, TreeState
@@ -330,27 +330,24 @@ class ReportReader:
             return 0
         self._state = self._solution
         before = self._line
+        growing = builder.growing
         if self._stipulation.play is Play.HELP:
-            taken = self._take_help_lines(lines_left, at, builder)
+            taken = self._take_help_lines(lines_left, at, growing)
         else:
-            taken = self._take_nodes(lines_left, at, builder)
+            self._tree.decide(lines_left[at])
+            taken = growing.add_known(lines_left, at, self._known_here, self._tree)
         self._line = before + taken
-        self._count = builder.solutions_so_far
+        self._count = len(growing.solutions)
         return taken
 
-    def _take_nodes(self, lines_left: list[bytes], at: int, builder: ItemBuilder) -> int:
-        """Takes lines of battle play; returns how many."""
-        self._tree.decide(lines_left[at])
-        return builder.take_known(lines_left, at, self._known_here, self._tree)
-
-    def _take_help_lines(self, lines_left: list[bytes], at: int, builder: ItemBuilder) -> int:
+    def _take_help_lines(self, lines_left: list[bytes], at: int, growing: GrowingPhase) -> int:
         """Takes lines of help play; returns how many."""
         for place in range(at, len(lines_left)):
             line = lines_left[place]
             if not line[:1].isdigit():
                 return place - at
             self._line += 1
-            builder.take_help_line(self._help_line(line))
+            growing.add_line(self._help_line(line))
         return len(lines_left) - at
 
     def _begin(self, stipulation: Stipulation, condition: Optional[Condition]) -> None:
