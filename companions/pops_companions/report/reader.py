@@ -398,9 +398,6 @@ class ReportReader:
         self._state = self._play
         return (events.NotPossibleEvent(self._number, self._kind),)
 
-    def _after_phase(self) -> State:
-        return self._play if self._kind is items.PhaseKind.SET else self._end
-
     def _solution(self, line: bytes) -> Sequence[events.Event]:
         is_set = self._kind is items.PhaseKind.SET
         if self._allowed is Allowed.UNFINISHED and is_set and line == b"play":
@@ -410,8 +407,9 @@ class ReportReader:
         total = lines.TOTAL.fullmatch(line)
         if total is not None:
             self._refuse_open_tree(line)
-            self._refuse_other_count(int(total[1]), line)
-            self._state = self._after_phase()
+            if int(total[1]) != self._count:
+                raise self.refused(f"'solutions: {self._count}', the number of solutions above", line)
+            self._state = self._play if is_set else self._end
             counted = items.Total(self._count, total[2] is not None)
             return (events.TotalEvent(self._number, self._kind, counted),)
         if self._stipulation.play is Play.HELP:
@@ -424,10 +422,6 @@ class ReportReader:
         self._tree.decide(line)
         if self._tree.least > 0:
             raise self.refused("a move below the one above", line)
-
-    def _refuse_other_count(self, count: int, line: bytes) -> None:
-        if count != self._count:
-            raise self.refused(f"'solutions: {self._count}', the number of solutions above", line)
 
     def _help_line(self, line: bytes) -> items.HelpLine:
         text = line.decode("latin-1")

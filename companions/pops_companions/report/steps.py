@@ -70,17 +70,13 @@ class Needs:
     """What the moves of some phases need on the board that they begin on."""
 
     def __init__(self, phases: Sequence[Phase]):
-        self._phases = phases
+        self._solutions = [it for phase in phases for it in phase.solutions]
         self._mask = self._value = 0
-        self._is_known = False
 
     def are_met(self, lines_of_ranks: bytes) -> bool:
         """Returns whether a board meets them, where another board met all of them."""
-        if not self._is_known:
-            self._is_known = True
-            for phase in self._phases:
-                for solution in phase.solutions:
-                    self._add(solution, 0)
+        while self._solutions:
+            self._add(self._solutions.pop(), 0)
         return board_number(lines_of_ranks) & self._mask == self._value
 
     def _add(self, solution: Union[HelpLine, Node], changed: int) -> None:

@@ -20,6 +20,8 @@ Men = dict[int, str]
 # A position with the mated king at 0,0: the men that take part, by their places from there.
 Picture = frozenset[tuple[int, int, str]]
 
+# What a mate is called; each is also what the names after it say.
+_NAMES = ("ideal", "model", "pure")
 _KING = "k"
 _OFFICERS = frozenset("QRBS")
 _FAIRY = frozenset(letter for kind in FAIRY_KINDS for letter in (kind.value, kind.value.lower()))
@@ -128,16 +130,7 @@ def keywords_of(mates: Iterable[Mate]) -> list[str]:
         pure[mate] = None
     if not pure:
         return []
-    names = {mate.name for mate in pure}
-    found = []
-    for name, wanted in (
-        ("ideal mates", {"ideal"}),
-        ("model mates", {"ideal", "model"}),
-        ("pure mates", {"ideal", "model", "pure"}),
-    ):
-        if names <= wanted:
-            found.append(name)
-            break
+    found = [f"{max((mate.name for mate in pure), key=_NAMES.index)} mates"]
     shades = [{(king % 8 + king // 8) % 2 for king, _ in it} for it in _echoes(pure)]
     if any(len(it) == 2 for it in shades):
         found.append("chameleon echo")
