@@ -281,17 +281,17 @@ def _judge_number(judgement: Judgement, stipulation: Stipulation, play: Phase) -
     judgement.solutions, judgement.stopped = found, play.total.stopped
     word = "solution" if stipulation.play is Play.HELP else "key"
     least = "at least " if judgement.stopped else ""
+    said = f"{least}{counted(found, word)}, {wanted} wanted"
+    weight, text = Weight.FLAW, "no solution"
     if found > wanted:
-        text = f"cooked: {least}{counted(found, word)}, {wanted} wanted"
-        judgement.find(Weight.FLAW, text, play.texts, True)
+        text = f"cooked: {said}"
     elif judgement.stopped:
-        text = f"stopped: {least}{counted(found, word)}, {wanted} wanted"
-        judgement.find(Weight.OPEN, text, play.texts, True)
-    elif found == 0:
-        judgement.find(Weight.FLAW, "no solution")
-    elif found < wanted:
-        text = f"solutions missing: {counted(found, word)}, {wanted} wanted"
-        judgement.find(Weight.FLAW, text, play.texts, True)
+        weight, text = Weight.OPEN, f"stopped: {said}"
+    elif 0 < found < wanted:
+        text = f"solutions missing: {said}"
+    elif found:
+        return
+    judgement.find(weight, text, play.texts, True)
 
 
 def _judge_keys(judgement: Judgement, stipulation: Stipulation, play: Phase) -> None:
