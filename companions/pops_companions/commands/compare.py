@@ -9,7 +9,7 @@ from pops_companions import command
 from pops_companions.command import Status, word
 from pops_companions.many.progress import Progress
 from pops_companions.review.differences import Counts, Pair, differences_of, heading
-from pops_companions.review.kept_report import KeptReport, kept_report
+from pops_companions.review.kept_text import KeptReport, kept_report
 from pops_companions.review.matching import Pairs, Places
 from pops_companions.review.naming import counted
 

@@ -28,7 +28,7 @@ from pops_companions.report.items import AnyItem, Board, FaultyItem, HeadlessIte
 from pops_companions.report.reader import ReportError, read_unfinished_report
 from pops_companions.report.source import warn_of_names
 from pops_companions.report.tries import TriesItem, is_of_item
-from pops_companions.review.kept_tries import refuse_numbers_twice, tries_of_text
+from pops_companions.review.kept_text import refuse_numbers_twice, tries_of_text
 from pops_companions.sheet.as_html import Layout, as_html
 from pops_companions.sheet.as_latex import as_latex
 from pops_companions.sheet.as_text import as_text

@@ -23,7 +23,7 @@ from pops_companions.review.judgement_text import (
     csv_line,
 )
 from pops_companions.review.posing import posed_problems
-from pops_companions.review.kept_tries import kept_tries
+from pops_companions.review.kept_text import kept_tries
 
 NAME = "pops-test"
 

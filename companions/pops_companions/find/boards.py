@@ -20,23 +20,18 @@ _KEY_BITS = 63
 _SEED = 1836
 
 
-class Move(NamedTuple):
-    """A way to move a whole board: what it is called, and where a file and a rank go, 0 to 7."""
-
-    name: str
-    place: Callable[[int, int], tuple[int, int]]
-
-
-_TURNS = (
-    Move("", lambda file, rank: (file, rank)),
-    Move("mirrored left to right", lambda file, rank: (7 - file, rank)),
-    Move("mirrored top to bottom", lambda file, rank: (file, 7 - rank)),
-    Move("turned by 180 degrees", lambda file, rank: (7 - file, 7 - rank)),
-    Move("turned by 90 degrees", lambda file, rank: (rank, 7 - file)),
-    Move("turned by 270 degrees", lambda file, rank: (7 - rank, file)),
-    Move("mirrored in the diagonal a1-h8", lambda file, rank: (rank, file)),
-    Move("mirrored in the diagonal h1-a8", lambda file, rank: (7 - rank, 7 - file)),
-)
+# Where a file and a rank go, 0 to 7, when a whole board is moved.
+Turn = Callable[[int, int], tuple[int, int]]
+_TURNS: dict[str, Turn] = {
+    "": lambda file, rank: (file, rank),
+    "mirrored left to right": lambda file, rank: (7 - file, rank),
+    "mirrored top to bottom": lambda file, rank: (file, 7 - rank),
+    "turned by 180 degrees": lambda file, rank: (7 - file, 7 - rank),
+    "turned by 90 degrees": lambda file, rank: (rank, 7 - file),
+    "turned by 270 degrees": lambda file, rank: (7 - rank, file),
+    "mirrored in the diagonal a1-h8": lambda file, rank: (rank, file),
+    "mirrored in the diagonal h1-a8": lambda file, rank: (7 - rank, 7 - file),
+}
 
 
 class Variant(NamedTuple):
@@ -83,22 +78,22 @@ def variants(board: str) -> Iterator[Variant]:
     best: dict[str, tuple[str, ...]] = {}
     for reversed_colours in (False, True):
         letters = board.swapcase() if reversed_colours else board
-        for turn in _TURNS:
+        for name, turn in _TURNS.items():
             men = _moved(letters, turn)
             for files, ranks in _shifts(men):
                 shift = [_shift_in_words(files, ranks)] if files or ranks else []
                 colours = ["colours reversed"] if reversed_colours else []
-                how = tuple(filter(None, [turn.name, *shift, *colours]))
+                how = tuple(filter(None, [name, *shift, *colours]))
                 shifted = _placed(men, files, ranks)
                 if shifted not in best or len(how) < len(best[shifted]):
                     best[shifted] = how
     return (Variant(one, how) for one, how in best.items())
 
 
-def _moved(board: str, move: Move) -> list[tuple[int, int, str]]:
+def _moved(board: str, turn: Turn) -> list[tuple[int, int, str]]:
     """Returns the men of a board by file and rank, 0 to 7, after a turn or a reflection."""
     return [
-        (*move.place(place % 8, 7 - place // 8), letter)
+        (*turn(place % 8, 7 - place // 8), letter)
         for place, letter in enumerate(board)
         if letter != EMPTY
     ]

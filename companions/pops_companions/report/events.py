@@ -9,6 +9,9 @@ from pops_companions.report.items import Board, Fault, HelpLine, PhaseKind, Tota
 from pops_companions.report.moves import PlayedMove
 
 
+Head = tuple[int, Optional[bytes], Optional[bytes], Optional[Board], Stipulation, Optional[Condition]]
+
+
 class FirstMoveKind(Enum):
     """What a first move of a text of tries is; its value is the sign after the move."""
 
@@ -66,6 +69,11 @@ class HeadEvent(Event):
     board: Optional[Board]
     stipulation: Stipulation
     condition: Optional[Condition]
+
+    @property
+    def parts(self) -> Head:
+        """The number of the problem, and what its head says."""
+        return (self.problem, self.title, self.author, self.board, self.stipulation, self.condition)
 
 
 class CheckedEvent(Event):

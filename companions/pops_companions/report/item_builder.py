@@ -2,11 +2,11 @@
 
 from collections.abc import Sequence
 from dataclasses import dataclass, field
-from typing import Any, Optional, Union
+from typing import Any, Generic, Optional, TypeVar, Union
 
 from pops_companions.report import events, items, lines
 from pops_companions.report.known_lines import KnownNodes
-from pops_companions.report.tree import TreeState
+from pops_companions.report.tree import Detail, TreeState
 
 
 @dataclass
@@ -14,39 +14,40 @@ class GrowingPhase:
     """A phase whose solutions come one by one."""
 
     kind: items.PhaseKind
+    # The level of its first moves.
+    first_level: int = 0
     solutions: list[Union[items.HelpLine, items.Node]] = field(default_factory=list)
     lines: list[str] = field(default_factory=list)
-    _path: list[tuple[int, items.Node]] = field(default_factory=list)
+    _below: list[list[Any]] = field(init=False)
+
+    def __post_init__(self) -> None:
+        # (where the next move of each level goes)
+        self._below = [self.solutions]
 
     def add_line(self, line: items.HelpLine) -> None:
         self.solutions.append(line)
         self.lines.append(line.text)
 
     def add_node(self, event: events.NodeEvent) -> None:
-        text = "  " * event.level + event.text
-        node = items.Node(text, event.move, [])
-        while self._path and self._path[-1][0] >= event.level:
-            self._path.pop()
-        if self._path:
-            self._path[-1][1].below.append(node)
-        else:
-            self.solutions.append(node)
-        self._path.append((event.level, node))
-        self.lines.append(text)
+        node = items.Node("  " * event.level + event.text, event.move, [])
+        level = event.level - self.first_level
+        self._below[level].append(node)
+        self._below[level + 1 :] = [node.below]
+        self.lines.append(node.text)
 
     def add_known(
-        self, source: Sequence[bytes], start: int, end: int, known: KnownNodes, tree: TreeState
+        self, source: Sequence[bytes], start: int, known: KnownNodes, tree: TreeState
     ) -> int:
-        """Adds the nodes of the lines between two places, as far as the tree doesn't refuse them. Returns
-        how many they are.
+        """Adds the nodes of the lines from a place on, as far as the tree doesn't refuse them, and up to one
+        after which the next line shows how deep it goes. Returns how many they are.
         """
-        below: list[list[Any]] = [self.solutions, *(node.below for _, node in self._path)]
-        texts = self.lines
+        below, texts = self._below, self.lines
         before = len(texts)
         least, most, serial = tree.least, tree.most, tree.serial
         parents, boards = tree.parents, tree.boards
+        watched, is_cut = tree.watched, tree.detail is Detail.FIRST_MOVES
         # (what `tree.refusal` and `tree.add` do, without their calls)
-        for place in range(start, end):
+        for place in range(start, len(source)):
             found = known[source[place]]
             if found is None:
                 break
@@ -68,8 +69,12 @@ class GrowingPhase:
             below[level + 1 :] = (nodes,)
             texts.append(text)
             least, most = next_least, next_most
+            if level == watched and least:
+                if not is_cut:
+                    tree.detail = Detail.SHOWN_NEXT
+                    break
+                least, most = 0, level
         tree.least, tree.most, tree.serial = least, most, serial
-        self._path = [(level, nodes[-1]) for level, nodes in enumerate(below[:-1])]
         return len(texts) - before
 
     @property
@@ -86,7 +91,11 @@ def total_text(total: items.Total) -> str:
     return lines.total_line(total.count, total.stopped).decode("ascii").rstrip("\n")
 
 
-class ItemBuilder:
+# What a sound problem becomes.
+Made = TypeVar("Made")
+
+
+class Builder(Generic[Made]):
     """Collects the events of one problem after another."""
 
     def __init__(self) -> None:
@@ -99,7 +108,7 @@ class ItemBuilder:
         self._phases: list[items.Phase] = []
         self._growing: Optional[GrowingPhase] = None
 
-    def take(self, event: events.Event) -> Optional[items.AnyItem]:
+    def take(self, event: events.Event) -> Union[items.FaultyItem, items.HeadlessItem, Made, None]:
         """Takes the next event; returns the item that it ends, if it ends one."""
         if isinstance(event, events.EndEvent):
             item = self._item(event)
@@ -121,44 +130,37 @@ class ItemBuilder:
         elif self._growing is not None:
             if isinstance(event, events.LineEvent):
                 self._growing.add_line(event.line)
-            elif isinstance(event, events.NodeEvent):
+            elif isinstance(event, events.NodeEvent) and event.place is events.Place.SOLUTION:
                 self._growing.add_node(event)
         return None
-
-    def take_head(self, head: events.HeadEvent) -> None:
-        """Takes the head of a problem as its events would say it."""
-        self._head = head
-
-    def take_known(
-        self, source: Sequence[bytes], start: int, end: int, known: KnownNodes, tree: TreeState
-    ) -> int:
-        """Takes lines of the phase at hand as their events would say them; returns how many."""
-        assert self._growing is not None
-        return self._growing.add_known(source, start, end, known, tree)
-
-    def take_help_line(self, line: items.HelpLine) -> None:
-        """Takes a line of help play of the phase at hand, as its event would say it."""
-        assert self._growing is not None
-        self._growing.add_line(line)
-
-    @property
-    def solutions_so_far(self) -> int:
-        """How many solutions the phase at hand has."""
-        assert self._growing is not None
-        return len(self._growing.solutions)
 
     def _end_phase(self, total: Optional[items.Total], last_line: str) -> None:
         if self._growing is not None:
             self._phases.append(self._growing.ended(total, last_line))
             self._growing = None
 
-    def _item(self, end: events.EndEvent) -> items.AnyItem:
+    def _item(self, end: events.EndEvent) -> Union[items.FaultyItem, items.HeadlessItem, Made]:
         if self._fault is not None:
             return items.FaultyItem(end.problem, self._fault)
-        head = self._head
-        if head is None:
+        if self._head is None:
             return items.HeadlessItem(end.problem, end.unfinished or "")
         self._end_phase(None, f"unfinished: {end.unfinished}")
-        names = (head.title, head.author, head.board, head.stipulation, head.condition)
+        return self._made(self._head, end.unfinished)
+
+    def _made(self, head: events.HeadEvent, unfinished: Optional[str]) -> Made:
+        """Returns a sound problem with this head."""
+        raise NotImplementedError
+
+
+class ItemBuilder(Builder[items.SoundItem]):
+    """Makes the items of a report."""
+
+    def _made(self, head: events.HeadEvent, unfinished: Optional[str]) -> items.SoundItem:
         phases = None if self._is_checked else tuple(self._phases)
-        return items.SoundItem(end.problem, *names, phases, end.unfinished)
+        return items.SoundItem(*head.parts, phases, unfinished)
+
+    @property
+    def growing(self) -> GrowingPhase:
+        """The phase at hand, which takes more solutions than its events say."""
+        assert self._growing is not None
+        return self._growing

@@ -11,16 +11,11 @@ MOST_KNOWN = 100_000
 
 
 class Form(NamedTuple):
-    """What decides, beside the board, what a line of a phase says.
-
-    `first_levels` is the deepest level that is shown without Variation; with `is_cut` none is deeper.
-    """
+    """What decides, beside the board, what a line of a phase says."""
 
     stipulation: Stipulation
     is_circe: bool
     first_half: int
-    first_levels: int
-    is_cut: bool
 
     @property
     def halves(self) -> int:
@@ -76,16 +71,16 @@ class KnownNodes(dict[bytes, Optional[KnownNode]]):
         return node
 
     def _node(self, text: str) -> Optional[KnownNode]:
-        form, deepest = self._form, len(self._levels) - 1
+        deepest = len(self._levels) - 1
         level = (len(text) - len(text.lstrip(" "))) // 2
         found = read_step(text, *self._levels[level]) if level <= deepest else None
         if found is None:
             return None
         move, step = found
-        has_reached = form.has_reached(move)
-        if has_reached or has_reached is False and form.is_cut and level == form.first_levels < deepest:
+        has_reached = self._form.has_reached(move)
+        if has_reached:
             return KnownNode(level, text, move, 0, level, [0], step)
-        if has_reached is None or level == deepest or form.is_cut and level >= form.first_levels:
+        if has_reached is None or level == deepest:
             return None
         return KnownNode(level, text, move, level + 1, level + 1, [0], step)
 

@@ -17,9 +17,9 @@ from typing import Optional
 from pops_companions.chess.stipulation import Condition, Play, Stipulation
 from pops_companions.report import events, items, lines
 from pops_companions.report.help_lines import HelpState, LineRefused
-from pops_companions.report.item_builder import ItemBuilder
-from pops_companions.report.known_lines import MOST_KNOWN, Form, KnownMoves, KnownNode, KnownNodes
-from pops_companions.report.steps import Needs, board_number
+from pops_companions.report.item_builder import GrowingPhase, ItemBuilder
+from pops_companions.report.known_lines import MOST_KNOWN, Form, KnownMoves, KnownNodes
+from pops_companions.report.steps import Needs, board_number, board_of
 from pops_companions.report.tree import Detail, TreeState
 from pops_companions.stored import stored
 
@@ -94,13 +94,8 @@ class ReportReader:
         self._board: Optional[int] = None
         self._count = 0
         self._tree = TreeState()
-        self._detail = Detail.UNKNOWN
         # Whether the problem goes on after set play without a total, so that it must be unfinished.
         self._is_set_cut = False
-        # Whether only the next line shows how deep the trees go.
-        self._is_undecided = False
-        # The lines of battle play of this phase that were taken before this was known.
-        self._taken_before: list[bytes] = []
         self._known: dict[Form, KnownNodes] = {}
         self._known_here = KnownNodes(self._form)
         self._help = HelpState()
@@ -239,8 +234,7 @@ class ReportReader:
         if line.count(b" ") > 1:
             raise self.refused("a stipulation and at most one condition", line)
         board = items.Board(tuple(self._ranks)) if self._ranks else None
-        ranks = [f"{8 - place} {rank}\n" for place, rank in enumerate(self._ranks)]
-        self._board = board_number("".join(ranks).encode("ascii")) if ranks else None
+        self._board = None if board is None else board_of(board.letters)
         self._begin(stipulation, condition)
         names = (self._title, self._author, board)
         return (events.HeadEvent(self._number, *names, stipulation, condition),)
@@ -321,7 +315,7 @@ class ReportReader:
         self._board = board_number(ranks)
         self._begin(stipulation, condition)
         names = (title, author, _board_of(ranks))
-        builder.take_head(events.HeadEvent(self._number, *names, stipulation, condition))
+        builder.take(events.HeadEvent(self._number, *names, stipulation, condition))
         for event in self._phase(items.PhaseKind(phase.decode("ascii"))):
             builder.take(event)
         taken = _LINES_OF_HEAD - (title, author).count(None)
@@ -336,77 +330,30 @@ class ReportReader:
             return 0
         self._state = self._solution
         before = self._line
+        growing = builder.growing
         if self._stipulation.play is Play.HELP:
-            taken = self._take_help_lines(lines_left, at, builder)
+            taken = self._take_help_lines(lines_left, at, growing)
         else:
-            taken = self._take_nodes(lines_left, at, builder)
+            self._tree.decide(lines_left[at])
+            taken = growing.add_known(lines_left, at, self._known_here, self._tree)
         self._line = before + taken
-        self._count = builder.solutions_so_far
+        self._count = len(growing.solutions)
         return taken
 
-    def _take_nodes(self, lines_left: list[bytes], at: int, builder: ItemBuilder) -> int:
-        """Takes lines of battle play; returns how many."""
-        end = self._look_ahead(lines_left, at)
-        taken = builder.take_known(lines_left, at, end, self._known_here, self._tree)
-        if self._detail is Detail.UNKNOWN:
-            self._taken_before += lines_left[at : at + taken]
-        return taken
-
-    def _look_ahead(self, lines_left: list[bytes], at: int) -> int:
-        """Finds out how deep the trees go, if the lines from a place on show it; returns the place up to
-        which they can be taken.
-        """
-        if self._is_undecided:
-            self._decide(lines_left[at])
-        for place in range(at, len(lines_left)):
-            if self._detail is not Detail.UNKNOWN:
-                break
-            node = self._known_here[lines_left[place]]
-            if node is None:
-                break
-            if self._shows_detail(node):
-                if place + 1 == len(lines_left):
-                    return place
-                self._set_detail(lines_left[place + 1])
-        return len(lines_left)
-
-    def _shows_detail(self, node: KnownNode) -> bool:
-        """Returns whether the line after a node shows how deep the trees go."""
-        return self._detail is Detail.UNKNOWN and node.level == self._first_levels < node.least
-
-    def _set_detail(self, line: bytes) -> None:
-        """Notes how deep the trees go, by the line after a node that shows it."""
-        is_deeper = line.startswith(b"  " * (self._first_levels + 1))
-        self._detail = Detail.TO_THE_GOAL if is_deeper else Detail.FIRST_MOVES
-        before = self._known_here
-        self._choose_known()
-        for taken in self._taken_before:
-            node, known = before[taken], self._known_here[taken]
-            if node is not None and known is not None:
-                known.parent[0] = node.parent[0]
-
-    def _decide(self, line: bytes) -> None:
-        """Notes how deep the trees go, if the line before had to show it."""
-        if self._is_undecided:
-            self._is_undecided = False
-            self._set_detail(line)
-            if self._detail is Detail.FIRST_MOVES:
-                self._tree.least, self._tree.most = 0, self._first_levels
-
-    def _take_help_lines(self, lines_left: list[bytes], at: int, builder: ItemBuilder) -> int:
+    def _take_help_lines(self, lines_left: list[bytes], at: int, growing: GrowingPhase) -> int:
         """Takes lines of help play; returns how many."""
         for place in range(at, len(lines_left)):
             line = lines_left[place]
             if not line[:1].isdigit():
                 return place - at
             self._line += 1
-            builder.take_help_line(self._help_line(line))
+            growing.add_line(self._help_line(line))
         return len(lines_left) - at
 
     def _begin(self, stipulation: Stipulation, condition: Optional[Condition]) -> None:
         """Sets the state that takes the first line after the head."""
         self._stipulation, self._condition = stipulation, condition
-        self._detail, self._is_undecided = Detail.UNKNOWN, False
+        self._tree.detail = Detail.UNKNOWN
         self._state = self._first_phase
 
     def _first_phase(self, line: bytes) -> Sequence[events.Event]:
@@ -424,32 +371,25 @@ class ReportReader:
 
     def _phase(self, kind: items.PhaseKind) -> Sequence[events.Event]:
         self._kind, self._count = kind, 0
-        self._taken_before.clear()
+        form = self._form
         if self._stipulation.play is Play.HELP:
-            form = self._form
             if form not in self._known_moves:
                 self._known_moves[form] = [KnownMoves(form, place) for place in range(form.halves)]
             self._help.begin(self._known_moves[form], self._board)
         else:
-            self._tree.begin(self._board)
-            self._choose_known()
+            self._tree.begin(self._board, self._first_levels)
+            if sum(map(len, self._known.values())) >= MOST_KNOWN:
+                self._known.clear()
+            if form not in self._known:
+                self._known[form] = KnownNodes(form)
+            self._known_here = self._known[form]
         self._state = self._first_solution
         return (events.PhaseEvent(self._number, kind),)
 
     @property
     def _form(self) -> Form:
         first_half = self._stipulation.first_half + (1 if self._kind is items.PhaseKind.SET else 0)
-        is_circe, is_cut = self._condition is Condition.CIRCE, self._detail is Detail.FIRST_MOVES
-        return Form(self._stipulation, is_circe, first_half, self._first_levels, is_cut)
-
-    def _choose_known(self) -> None:
-        """Takes up what is known of lines of battle play of this phase."""
-        form = self._form
-        if sum(map(len, self._known.values())) >= MOST_KNOWN:
-            self._known.clear()
-        if form not in self._known:
-            self._known[form] = KnownNodes(form)
-        self._known_here = self._known[form]
+        return Form(self._stipulation, self._condition is Condition.CIRCE, first_half)
 
     def _first_solution(self, line: bytes) -> Sequence[events.Event]:
         if line != lines.NOT_POSSIBLE or self._kind is not items.PhaseKind.SET:
@@ -457,9 +397,6 @@ class ReportReader:
             return self._solution(line)
         self._state = self._play
         return (events.NotPossibleEvent(self._number, self._kind),)
-
-    def _after_phase(self) -> State:
-        return self._play if self._kind is items.PhaseKind.SET else self._end
 
     def _solution(self, line: bytes) -> Sequence[events.Event]:
         is_set = self._kind is items.PhaseKind.SET
@@ -470,8 +407,9 @@ class ReportReader:
         total = lines.TOTAL.fullmatch(line)
         if total is not None:
             self._refuse_open_tree(line)
-            self._refuse_other_count(int(total[1]), line)
-            self._state = self._after_phase()
+            if int(total[1]) != self._count:
+                raise self.refused(f"'solutions: {self._count}', the number of solutions above", line)
+            self._state = self._play if is_set else self._end
             counted = items.Total(self._count, total[2] is not None)
             return (events.TotalEvent(self._number, self._kind, counted),)
         if self._stipulation.play is Play.HELP:
@@ -481,13 +419,9 @@ class ReportReader:
 
     def _refuse_open_tree(self, line: bytes) -> None:
         """Refuses a line in place of a move that has to follow the one above."""
-        self._decide(line)
+        self._tree.decide(line)
         if self._tree.least > 0:
             raise self.refused("a move below the one above", line)
-
-    def _refuse_other_count(self, count: int, line: bytes) -> None:
-        if count != self._count:
-            raise self.refused(f"'solutions: {self._count}', the number of solutions above", line)
 
     def _help_line(self, line: bytes) -> items.HelpLine:
         text = line.decode("latin-1")
@@ -503,15 +437,12 @@ class ReportReader:
 
     def _node(self, line: bytes, place: events.Place) -> events.NodeEvent:
         """Returns the node of a line."""
-        self._decide(line)
+        self._tree.decide(line)
         node = self._known_here[line]
         expected = "a move, or the number of solutions" if node is None else self._tree.refusal(node)
         if node is None or expected is not None:
             raise self.refused(expected or "", line)
         self._tree.add(node)
-        if self._detail is Detail.UNKNOWN:
-            self._taken_before.append(line)
-        self._is_undecided = self._shows_detail(node)
         level, text, move = node[:3]
         self._count += level == 0
         return events.NodeEvent(self._number, self._kind, place, level, text[2 * level :], move)

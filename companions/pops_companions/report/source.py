@@ -5,7 +5,9 @@ import sys
 from collections.abc import Callable, Iterable, Iterator
 from contextlib import contextmanager
 from enum import Enum
-from typing import BinaryIO, Optional, TypeVar, Union
+from functools import partial
+from itertools import chain
+from typing import Any, BinaryIO, Optional, TypeVar, Union
 
 from pops_companions import command
 from pops_companions.command import CommandError, Status
@@ -115,18 +117,8 @@ def opened_events(
     """
     reader = ReportReader(allowed) if text is Text.REPORT else TriesReader(allowed)
     with command.opened(file) as source:
-        yield _events(file or "standard input", source, reader, text)
-
-
-def _events(name: str, source: BinaryIO, reader: ReportReader, text: Text) -> Iterator[Event]:
-    pieces = _Pieces(pieces_of(source))
-    try:
-        yield from read_events(reader, pieces)
-    except ReportError as error:
-        message = _refusal(name, pieces.first_line, error, text)
-        raise CommandError(Status.DEVICE, message) from None
-    if pieces.is_empty:
-        raise CommandError(Status.DEVICE, f"{name} is empty: no {text.value}")
+        named = NamedText(companion, file or "standard input", "", text)
+        yield named.all_of(named.read(pieces_of(source), partial(read_events, reader)))
 
 
 def _merged(
@@ -155,27 +147,6 @@ def is_input(line: bytes) -> bool:
     return bool(words) and is_short_for(words[0], "BeginProblem")
 
 
-class _Pieces:
-    """The bytes of a text in pieces; the first line is kept."""
-
-    def __init__(self, pieces: Iterable[bytes]):
-        self._pieces = pieces
-        self._first = b""
-
-    def __iter__(self) -> Iterator[bytes]:
-        for piece in self._pieces:
-            self._first = self._first or piece
-            yield piece
-
-    @property
-    def is_empty(self) -> bool:
-        return not self._first
-
-    @property
-    def first_line(self) -> bytes:
-        return self._first.split(b"\n", 1)[0]
-
-
 def _items(
     companion: str,
     name: str,
@@ -186,8 +157,7 @@ def _items(
     text: Text = Text.REPORT,
 ) -> Iterator[Read]:
     named = NamedText(companion, name, encoding, text)
-    yield from named.items(pieces_of(source), read)
-    named.end(may_be_empty)
+    return named.all_of(named.items(pieces_of(source), read), may_be_empty)
 
 
 class NamedText:
@@ -206,16 +176,29 @@ class NamedText:
         self, pieces: Iterable[bytes], read: Callable[[Iterable[bytes]], Iterator[Read]]
     ) -> Iterator[Read]:
         """Yields the items of some pieces. A text of another form ends the companion."""
-        noted = _Pieces(pieces)
+        for item in self.read(pieces, read):
+            if not _has_names_in(self._encoding, item):
+                self.undecodable.append(item.number)
+            yield item
+
+    def read(
+        self, pieces: Iterable[bytes], read: Callable[[Iterable[bytes]], Iterator[Any]]
+    ) -> Iterator[Any]:
+        """Yields what is read of some pieces. A text of another form ends the companion."""
+        left = iter(pieces)
+        first = next(left, b"")
         try:
-            for item in read(noted):
+            for one in read(chain([first], left)):
                 self._is_empty = False
-                if not _has_names_in(self._encoding, item):
-                    self.undecodable.append(item.number)
-                yield item
+                yield one
         except ReportError as error:
-            message = _refusal(self._name, noted.first_line, error, self._text)
+            message = _refusal(self._name, first.split(b"\n", 1)[0], error, self._text)
             raise CommandError(Status.DEVICE, message) from None
+
+    def all_of(self, some: Iterator[Any], may_be_empty: bool = False) -> Iterator[Any]:
+        """Yields all that is read of the text, and ends it."""
+        yield from some
+        self.end(may_be_empty)
 
     def end(self, may_be_empty: bool = False) -> None:
         """Refuses a text without items, and says whose names aren't in the encoding."""

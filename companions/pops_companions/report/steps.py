@@ -18,6 +18,8 @@ _IS_MAN = 0x40
 _OF_COLOUR = {Colour.WHITE: (0x60, 0x40), Colour.BLACK: (0x60, 0x60)}
 _ALL = 0xFF
 _EMPTY = ord(".")
+# How many bytes the line of a rank has.
+_LINE = 11
 # The squares between king and rook, by their files, then the files that the rook leaves and comes to.
 _CASTLINGS = {Castling.SHORT: ((6, 7), 8, 6), Castling.LONG: ((2, 3, 4), 1, 4)}
 _PROMOTION_RANKS = (1, 8)
@@ -68,17 +70,13 @@ class Needs:
     """What the moves of some phases need on the board that they begin on."""
 
     def __init__(self, phases: Sequence[Phase]):
-        self._phases = phases
+        self._solutions = [it for phase in phases for it in phase.solutions]
         self._mask = self._value = 0
-        self._is_known = False
 
     def are_met(self, lines_of_ranks: bytes) -> bool:
         """Returns whether a board meets them, where another board met all of them."""
-        if not self._is_known:
-            self._is_known = True
-            for phase in self._phases:
-                for solution in phase.solutions:
-                    self._add(solution, 0)
+        while self._solutions:
+            self._add(self._solutions.pop(), 0)
         return board_number(lines_of_ranks) & self._mask == self._value
 
     def _add(self, solution: Union[HelpLine, Node], changed: int) -> None:
@@ -102,12 +100,34 @@ class Needs:
 
 def _shift(square: Square) -> int:
     """Returns the place of a square's bits: each line has a digit, a blank, eight squares and its end."""
-    return 8 * ((8 - square.rank) * 11 + 1 + square.file)
+    return 8 * ((8 - square.rank) * _LINE + 1 + square.file)
 
 
 def board_number(lines_of_ranks: bytes) -> int:
     """Returns the board of eight lines as `8 ........`, each with its end."""
     return int.from_bytes(lines_of_ranks, "little")
+
+
+def board_of(letters: str) -> int:
+    """Returns the board of the letters and points of all ranks, rank 8 first."""
+    ranks = (f"{8 - place // 8} {letters[place : place + 8]}\n" for place in range(0, 64, 8))
+    return board_number("".join(ranks).encode("ascii"))
+
+
+def letters_of(board: int) -> str:
+    """Returns the letters and points of all ranks of a board."""
+    lines = board.to_bytes(8 * _LINE, "little").decode("ascii").splitlines()
+    return "".join(line[2:] for line in lines)
+
+
+def board_after(board: int, moves: Iterable[PlayedMove]) -> Optional[int]:
+    """Returns the board after some moves; None where the men on it can't make them."""
+    for move in moves:
+        step = step_of(move)
+        if step is None or board & step.mask != step.value:
+            return None
+        board = board & step.kept | step.put
+    return board
 
 
 _KNOWN: dict[tuple[str, Colour], Optional[Step]] = {}

@@ -15,20 +15,23 @@ class Detail(Enum):
     """How deep the trees of a problem go."""
 
     UNKNOWN = "not known yet"
+    # The line that follows the last move shows it.
+    SHOWN_NEXT = "shown by the next line"
     # In set play with White's continuations, in a text of tries with continuations of threats and defences.
     FIRST_MOVES = "the first moves"
     TO_THE_GOAL = "to the goal"
-
-    # (a member is its own only equal; Enum's hash takes longer)
-    __hash__ = object.__hash__
 
 
 @dataclass
 class TreeState:
     """Where in a tree the reading is: the levels that the next move may have, for each level the board
     before its moves and the number of the move above.
+
+    `first_levels` is the deepest level that is shown without Variation.
     """
 
+    detail: Detail = Detail.UNKNOWN
+    first_levels: int = 0
     least: int = 0
     most: int = 0
     serial: int = 0
@@ -36,8 +39,9 @@ class TreeState:
     boards: Optional[list[int]] = None
     parents: list[int] = field(default_factory=lambda: [0] * (_MOST_LEVELS + 2))
 
-    def begin(self, board: Optional[int]) -> None:
+    def begin(self, board: Optional[int], first_levels: int) -> None:
         """Begins a phase on a board."""
+        self.first_levels = first_levels
         self.serial += 1
         self.least = self.most = 0
         self.parents[0] = self.serial
@@ -50,6 +54,26 @@ class TreeState:
         self.parents[level] = self.serial
         if self.boards is not None:
             self.boards[level] = self.boards[1]
+
+    @property
+    def watched(self) -> int:
+        """The level of the moves that may end what is shown short of the goal, or -1."""
+        return -1 if self.detail is Detail.TO_THE_GOAL else self.first_levels
+
+    def watch(self) -> None:
+        """Takes a move of the level that is watched, and not to the goal, as the last one added."""
+        if self.detail is Detail.FIRST_MOVES:
+            self.least, self.most = 0, self.first_levels
+        else:
+            self.detail = Detail.SHOWN_NEXT
+
+    def decide(self, line: bytes) -> None:
+        """Notes how deep the trees go, if the line before had to show it."""
+        if self.detail is Detail.SHOWN_NEXT:
+            self.detail = Detail.TO_THE_GOAL
+            if not line.startswith(b"  " * (self.first_levels + 1)):
+                self.detail = Detail.FIRST_MOVES
+                self.watch()
 
     def is_possible(self, step: Step, level: int) -> bool:
         """Returns whether the men on the board of a level can make a move."""
@@ -82,3 +106,5 @@ class TreeState:
         self.parents[level + 1] = self.serial
         self.plays(node.step, level)
         self.least, self.most = node.least, node.most
+        if level == self.watched and node.least:
+            self.watch()

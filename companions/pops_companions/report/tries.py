@@ -4,13 +4,13 @@ The reading is strict, as that of reports (docs/tries.ebnf).
 """
 
 import re
-from collections.abc import Iterable, Iterator, Sequence
-from dataclasses import dataclass, field
-from typing import Optional, Union
+from collections.abc import Callable, Iterable, Iterator, Sequence
+from dataclasses import dataclass
+from typing import Any, Optional, Union
 
 from pops_companions.chess.stipulation import Condition, Goal, Play, Stipulation
 from pops_companions.report import events, items, lines
-from pops_companions.report.item_builder import GrowingPhase, total_text
+from pops_companions.report.item_builder import Builder, GrowingPhase, total_text
 from pops_companions.report.moves import Mark, PlayedMove, prefix
 from pops_companions.report.reader import Allowed, ReportReader, State, read_events
 from pops_companions.report.steps import Step, read_step
@@ -21,8 +21,8 @@ _BUT = "  but"
 _STALEMATE = "    stalemate"
 _TRIES_TOTAL = re.compile(r"tries: (0|[1-9][0-9]{0,17})", re.ASCII)
 _NODE = re.compile(r"( *)[0-9]", re.ASCII)
-_Below = Union[events.MenaceEvent, events.RefutationEvent, events.StalemateEvent]
-_OfPhase = Union[events.PhaseEvent, events.NotPossibleEvent, events.TotalEvent]
+# The levels of the moves right below a first move: those that follow a pass, and replies.
+_LEVELS = {events.Place.THREAT: 2, events.Place.DEFENCE: 1}
 
 
 @dataclass(frozen=True)
@@ -127,7 +127,7 @@ class TriesReader(ReportReader):
             return self._total(line)
         text, sign = line.decode("latin-1"), self._sign.value
         move, step = self._signed_move(text, self._stipulation.first_half, prefix(1), sign)
-        self._tree.begin(self._board)
+        self._tree.begin(self._board, self._first_levels)
         self._has_ended = self._play_move(line, move, step)
         is_try = self._sign is events.FirstMoveKind.TRY
         is_last = self._stipulation.half_moves == 1
@@ -166,26 +166,26 @@ class TriesReader(ReportReader):
         if menace is None:
             raise self.refused("what the key threatens", line)
         if menace is events.Menace.THREAT:
-            self._tree.begin_below(2)
+            self._tree.begin_below(_LEVELS[events.Place.THREAT])
             self._state = self._threat
         else:
             self._go_to_defences()
         return (events.MenaceEvent(self._number, menace),)
 
     def _go_to_defences(self) -> State:
-        self._tree.begin_below(1)
+        self._tree.begin_below(_LEVELS[events.Place.DEFENCE])
         self._tree.least = 0
         self._state = self._defence
         return self._state
 
     def _threat(self, line: bytes) -> Sequence[events.Event]:
-        if self._is_node(line, 2):
+        if _is_node(line, events.Place.THREAT):
             return (self._node(line, events.Place.THREAT),)
         self._refuse_open_tree(line)
         return self._go_to_defences()(line)
 
     def _defence(self, line: bytes) -> Sequence[events.Event]:
-        if self._is_node(line, 1):
+        if _is_node(line, events.Place.DEFENCE):
             node = self._node(line, events.Place.DEFENCE)
             if node.level == 1:
                 _added(self._replies, node.move)
@@ -196,11 +196,6 @@ class TriesReader(ReportReader):
         self._refuse_other(line, _BUT)
         self._state = self._first_refutation
         return ()
-
-    def _is_node(self, line: bytes, level: int) -> bool:
-        """Returns whether a line begins as a node of at least this level."""
-        found = _NODE.match(line.decode("latin-1"))
-        return found is not None and len(found[1]) >= 2 * level
 
     def _first_refutation(self, line: bytes) -> Sequence[events.Event]:
         text, lead = line.decode("latin-1"), f"    {prefix(2)}"
@@ -258,6 +253,12 @@ class TriesReader(ReportReader):
         return (events.TriesTotalEvent(self._number, self._count),)
 
 
+def _is_node(line: bytes, place: events.Place) -> bool:
+    """Returns whether a line begins as a node of at least the first level of a place."""
+    found = _NODE.match(line.decode("latin-1"))
+    return found is not None and len(found[1]) >= 2 * _LEVELS[place]
+
+
 def _added(moves: set[str], move: PlayedMove) -> bool:
     """Adds a move without what it does to a king; returns whether it wasn't there."""
     text = move.text if move.mark is None else move.text[:-1]
@@ -266,136 +267,79 @@ def _added(moves: set[str], move: PlayedMove) -> bool:
     return is_new
 
 
-@dataclass
-class _GrowingMove:
-    """A first move; what is below it comes line by line."""
-
-    first: events.FirstMoveEvent
-    menace: Optional[events.Menace] = None
-    threats: GrowingPhase = field(default_factory=lambda: GrowingPhase(items.PhaseKind.PLAY))
-    defences: GrowingPhase = field(default_factory=lambda: GrowingPhase(items.PhaseKind.PLAY))
-    refutations: list[items.Node] = field(default_factory=list)
-    is_stalemate: bool = False
-
-    def ended(self) -> FirstMove:
-        threats, defences = self.threats.nodes, self.defences.nodes
-        refutations = tuple(self.refutations)
-        text, move = self.first.text, self.first.move
-        below = (self.menace, threats, defences, refutations, self.is_stalemate)
-        return FirstMove(text, move, *below)
-
-
-class TriesBuilder:
+class TriesBuilder(Builder[TriesItem]):
     """Makes the items of a text of tries of its events."""
 
-    def __init__(self) -> None:
-        self._begin()
-
     def _begin(self) -> None:
-        self._fault: Optional[items.Fault] = None
-        self._head: Optional[events.HeadEvent] = None
-        self._set_play: Optional[items.Phase] = None
-        self._growing: Optional[GrowingPhase] = None
-        self._moves: list[_GrowingMove] = []
-        self._total: Optional[items.Total] = None
+        super()._begin()
+        # The first moves, each with what is below it.
+        self._moves: list[tuple[events.FirstMoveEvent, list[events.Event]]] = []
         self._lines: list[str] = []
 
     def take(self, event: events.Event) -> Optional[AnyTriesItem]:
         """Takes the next event; returns the item that it ends, if it ends one."""
-        if isinstance(event, events.EndEvent):
-            item = self._item(event)
-            self._begin()
-            return item
+        if isinstance(event, events.FirstMoveEvent):
+            self._moves.append((event, []))
+        elif self._moves:
+            below = self._moves[-1][1]
+            refutes = isinstance(event, (events.RefutationEvent, events.StalemateEvent))
+            if refutes and not (below and isinstance(below[-1], events.RefutationEvent)):
+                self._lines.append(_BUT)
+            below.append(event)
         self._lines.extend(lines_of(event))
-        if isinstance(event, events.FaultEvent):
-            self._fault = event.fault
-        elif isinstance(event, events.HeadEvent):
-            self._head = event
-        elif isinstance(event, events.FirstMoveEvent):
-            self._moves.append(_GrowingMove(event))
-        elif isinstance(event, (events.MenaceEvent, events.RefutationEvent, events.StalemateEvent)):
-            self._add_to_move(event)
-        elif isinstance(event, (events.PhaseEvent, events.NotPossibleEvent, events.TotalEvent)):
-            self._take_of_phase(event)
-        elif isinstance(event, events.NodeEvent):
-            self._add_node(event)
-        return None
+        return super().take(event)
 
-    def _add_to_move(self, event: _Below) -> None:
-        move = self._moves[-1]
+    def _made(self, head: events.HeadEvent, unfinished: Optional[str]) -> TriesItem:
+        phases = {it.kind: it for it in self._phases}
+        play = phases.get(items.PhaseKind.PLAY)
+        keys, tries = (
+            tuple(_first_move(*it) for it in self._moves if it[0].kind is kind)
+            for kind in events.FirstMoveKind
+        )
+        total = None if play is None else play.total
+        shown = (phases.get(items.PhaseKind.SET), keys, total, tries, tuple(self._lines))
+        return TriesItem(*head.parts, *shown, unfinished)
+
+
+def _first_move(first: events.FirstMoveEvent, below: Sequence[events.Event]) -> FirstMove:
+    """Returns a first move with what the events say that is below it."""
+    trees = {it: GrowingPhase(items.PhaseKind.PLAY, level) for it, level in _LEVELS.items()}
+    menace, is_stalemate = None, False
+    refutations: list[items.Node] = []
+    for event in below:
         if isinstance(event, events.MenaceEvent):
-            move.menace = event.menace
-            return
-        if not move.refutations:
-            self._lines.insert(-1, _BUT)
-        if isinstance(event, events.StalemateEvent):
-            move.is_stalemate = True
-        else:
-            move.refutations.append(items.Node(f"    {event.text}", event.move, []))
+            menace = event.menace
+        elif isinstance(event, events.NodeEvent):
+            trees[event.place].add_node(event)
+        elif isinstance(event, events.RefutationEvent):
+            refutations.append(items.Node(f"    {event.text}", event.move, []))
+        elif isinstance(event, events.StalemateEvent):
+            is_stalemate = True
+    threats, defences = (it.nodes for it in trees.values())
+    below_it = (menace, threats, defences, tuple(refutations), is_stalemate)
+    return FirstMove(first.text, first.move, *below_it)
 
-    def _take_of_phase(self, event: _OfPhase) -> None:
-        growing = self._growing
-        if isinstance(event, events.PhaseEvent):
-            if growing is not None:
-                self._set_play = growing.ended(None, "unfinished")
-            is_set = event.phase is items.PhaseKind.SET
-            self._growing = GrowingPhase(event.phase) if is_set else None
-        elif event.phase is items.PhaseKind.SET and growing is not None:
-            total = event.total if isinstance(event, events.TotalEvent) else None
-            (last_line,) = lines_of(event)
-            self._set_play, self._growing = growing.ended(total, last_line), None
-        elif isinstance(event, events.TotalEvent):
-            self._total = event.total
 
-    def _add_node(self, event: events.NodeEvent) -> None:
-        if event.place is events.Place.SOLUTION:
-            if self._growing is not None:
-                self._growing.add_node(event)
-        elif event.place is events.Place.THREAT:
-            self._moves[-1].threats.add_node(event)
-        else:
-            self._moves[-1].defences.add_node(event)
-
-    def _item(self, end: events.EndEvent) -> AnyTriesItem:
-        if self._fault is not None:
-            return items.FaultyItem(end.problem, self._fault)
-        head = self._head
-        if head is None:
-            return items.HeadlessItem(end.problem, end.unfinished or "")
-        if self._growing is not None:
-            self._set_play = self._growing.ended(None, f"unfinished: {end.unfinished}")
-        names = (head.title, head.author, head.board, head.stipulation, head.condition)
-        keys = tuple(it.ended() for it in self._moves if it.first.kind is events.FirstMoveKind.KEY)
-        tries = tuple(it.ended() for it in self._moves if it.first.kind is events.FirstMoveKind.TRY)
-        shown = (self._set_play, keys, self._total, tries, tuple(self._lines))
-        return TriesItem(end.problem, *names, *shown, end.unfinished)
+_LINES: dict[type[events.Event], Callable[[Any], object]] = {
+    events.NoTriesEvent: lambda _: NO_TRIES,
+    events.CheckedEvent: lambda _: lines.SOUND.decode("ascii"),
+    events.PhaseEvent: lambda it: it.phase.value,
+    events.NotPossibleEvent: lambda _: lines.NOT_POSSIBLE.decode("ascii"),
+    events.NodeEvent: lambda it: "  " * it.level + it.text,
+    events.FirstMoveEvent: lambda it: it.text,
+    events.MenaceEvent: lambda it: f"  {it.menace.value}",
+    events.RefutationEvent: lambda it: f"    {it.text}",
+    events.StalemateEvent: lambda _: _STALEMATE,
+    events.TotalEvent: lambda it: total_text(it.total),
+    events.TriesEvent: lambda _: _TRIES,
+    events.TriesTotalEvent: lambda it: f"tries: {it.count}",
+}
 
 
 def lines_of(event: events.Event) -> list[str]:
     """Returns the lines below a stipulation that an event stands for; `but` has no event."""
-    if isinstance(event, events.NoTriesEvent):
-        return [NO_TRIES]
-    if isinstance(event, events.CheckedEvent):
-        return [lines.SOUND.decode("ascii")]
-    if isinstance(event, events.PhaseEvent):
-        return [event.phase.value]
-    if isinstance(event, events.NotPossibleEvent):
-        return [lines.NOT_POSSIBLE.decode("ascii")]
-    if isinstance(event, events.NodeEvent):
-        return ["  " * event.level + event.text]
-    if isinstance(event, events.FirstMoveEvent):
-        return [event.text]
-    if isinstance(event, events.MenaceEvent):
-        return [f"  {event.menace.value}"]
-    if isinstance(event, events.RefutationEvent):
-        return [f"    {event.text}"]
-    if isinstance(event, events.StalemateEvent):
-        return [_STALEMATE]
-    if isinstance(event, events.TotalEvent):
-        return [total_text(event.total)]
-    if isinstance(event, events.TriesEvent):
-        return [_TRIES]
-    return [f"tries: {event.count}"] if isinstance(event, events.TriesTotalEvent) else []
+    line = _LINES.get(type(event))
+    return [] if line is None else [str(line(event))]
 
 
 def read_tries(source: Iterable[bytes]) -> Iterator[TriesReportItem]:
@@ -414,8 +358,4 @@ def read_unfinished_tries(source: Iterable[bytes]) -> Iterator[AnyTriesItem]:
 
 
 def _items(allowed: Allowed, source: Iterable[bytes]) -> Iterator[AnyTriesItem]:
-    builder = TriesBuilder()
-    for event in read_events(TriesReader(allowed), source):
-        item = builder.take(event)
-        if item is not None:
-            yield item
+    return filter(None, map(TriesBuilder().take, read_events(TriesReader(allowed), source)))

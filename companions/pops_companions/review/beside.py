@@ -1,6 +1,7 @@
 """What is known of the problems of a report beside it: wanted numbers, short solutions, tries."""
 
 from collections.abc import Iterator
+from contextlib import contextmanager
 from dataclasses import dataclass
 from typing import NoReturn, Optional
 
@@ -11,7 +12,7 @@ from pops_companions.input.given_source import read_given
 from pops_companions.report.items import AnyItem, FaultyItem, SoundItem
 from pops_companions.report.source import opened_unfinished_report
 from pops_companions.report.tries import TriesItem, is_of_item
-from pops_companions.review.kept_tries import KnownTries
+from pops_companions.review.kept_text import KnownTries
 from pops_companions.review.judging import Judgement, KeptJudgements, judged, missing
 from pops_companions.review.posing import AnswersError, ShortAnswers
 
@@ -54,10 +55,8 @@ class Beside:
             self.given = read_given(companion, input_file)
         if short_file is not None:
             with opened_unfinished_report(companion, short_file, None, "utf-8") as items:
-                try:
+                with self._fitting_answers():
                     self._answers = ShortAnswers(items)
-                except AnswersError as error:
-                    self._refuse_answers(error)
 
     def judgements(self, items: Iterator[AnyItem]) -> Iterator[Judgement]:
         """Judges the items of a report, and adds the problems that it lacks."""
@@ -112,10 +111,8 @@ class Beside:
             wanted = self._wanted(item)
             tries = self._tries_of(item)
             if self._answers is not None:
-                try:
+                with self._fitting_answers():
                     short = self._answers.of(item)
-                except AnswersError as error:
-                    self._refuse_answers(error)
         if short is None and tries is None:
             judgement = self._kept.judged(item, wanted)
         else:
@@ -145,9 +142,13 @@ class Beside:
             self._refuse_input(f"problem {item.number} has another stipulation there")
         return usual if problem.wanted is None else problem.wanted
 
-    def _refuse_answers(self, error: AnswersError) -> NoReturn:
-        message = f"{self._short_file} doesn't answer what --pose asked: {error}"
-        raise CommandError(Status.DEVICE, message) from None
+    @contextmanager
+    def _fitting_answers(self) -> Iterator[None]:
+        try:
+            yield
+        except AnswersError as error:
+            message = f"{self._short_file} doesn't answer what --pose asked: {error}"
+            raise CommandError(Status.DEVICE, message) from None
 
     def _refuse_input(self, reason: str) -> NoReturn:
         message = f"{self._input_file} isn't the report's input: {reason}"

@@ -8,7 +8,6 @@ from typing import Optional
 from pops_companions.report.items import (
     Board,
     FaultyItem,
-    HelpLine,
     Item,
     Node,
     Phase,
@@ -70,20 +69,27 @@ class Differences:
         self.lines.append(f"    - {text}")
         self.counts.lost.update([what] if what else [])
 
+    def compare(self, old: Sequence[str], new: Sequence[str], what: str = "") -> None:
+        """Says which texts only one of both has; `what` counts them."""
+        before, after = set(old), set(new)
+        for text in old:
+            if text not in after:
+                self.lose(text, what)
+        for text in new:
+            if text not in before:
+                self.gain(text, what)
+
 
 def heading(pair: Pair, encoding: str) -> str:
     """Returns the line above a problem's differences."""
     item = pair.new or pair.old
     assert item is not None
-    parts = [f"problem {item.number}", described(item, encoding)]
-    if pair.old is None:
-        parts.insert(0, "+")
-    elif pair.new is None:
-        parts.insert(0, "-")
+    sign, number = "", f"problem {item.number}"
+    if pair.old is None or pair.new is None:
+        sign = "+ " if pair.old is None else "- "
     elif pair.old.number != pair.new.number:
-        parts[0] = f"problem {pair.old.number}, now {pair.new.number}"
-    sign = parts.pop(0) + " " if parts[0] in "+-" else ""
-    return sign + ": ".join(filter(None, parts))
+        number = f"problem {pair.old.number}, now {pair.new.number}"
+    return sign + ": ".join(filter(None, (number, described(item, encoding))))
 
 
 def differences_of(pair: Pair, encoding: str) -> Differences:
@@ -103,19 +109,17 @@ def differences_of(pair: Pair, encoding: str) -> Differences:
     return found
 
 
-def _fault_text(item: Item) -> str:
-    return f"fault {item.fault.number}: {item.fault.text}" if isinstance(item, FaultyItem) else ""
+def _fault_texts(item: Item) -> list[str]:
+    if isinstance(item, FaultyItem):
+        return [f"fault {item.fault.number}: {item.fault.text}"]
+    return []
 
 
 def _compare_faults(found: Differences, old: Item, new: Item) -> None:
-    before, after = _fault_text(old), _fault_text(new)
-    if before == after:
-        return
-    found.lines.append("  fault")
-    if before:
-        found.lose(before, "faults")
-    if after:
-        found.gain(after, "faults")
+    before, after = _fault_texts(old), _fault_texts(new)
+    if before != after:
+        found.lines.append("  fault")
+        found.compare(before, after, "faults")
 
 
 def _compare_problems(found: Differences, old: SoundItem, new: SoundItem, encoding: str) -> None:
@@ -123,21 +127,14 @@ def _compare_problems(found: Differences, old: SoundItem, new: SoundItem, encodi
     found.change("author", shown(old.author, encoding), shown(new.author, encoding))
     if old.board is not None and new.board is not None and old.board != new.board:
         found.lines.append("  board")
-        for text in _men(old.board, new.board):
-            found.lose(text)
-        for text in _men(new.board, old.board):
-            found.gain(text)
+        found.compare(_men(old.board), _men(new.board))
     found.change("stipulation", old.asked, new.asked)
 
 
-def _men(board: Board, other: Board) -> list[str]:
-    """Returns the men that a board has and the other hasn't, as `White Ra1`."""
-    others = other.men
-    return [
-        f"{man.colour.name.title()} {man.kind.value}{square.name}"
-        for square, man in board.men.items()
-        if others.get(square) != man
-    ]
+def _men(board: Board) -> list[str]:
+    """Returns the men of a board, as `White Ra1`."""
+    men = board.men.items()
+    return [f"{man.colour.name.title()} {man.kind.value}{square.name}" for square, man in men]
 
 
 def _compare_phases(found: Differences, old: SoundItem, new: SoundItem) -> None:
@@ -160,7 +157,7 @@ def _compare_phase(found: Differences, old: Phase, new: Phase) -> None:
     if old.lines == new.lines and old.last_line == new.last_line:
         return
     inside = Differences(counts=found.counts)
-    _compare_lines(inside, old.help_lines, new.help_lines)
+    inside.compare([it.text for it in old.help_lines], [it.text for it in new.help_lines], "solutions")
     deeper = _compare_nodes(inside, old.nodes, new.nodes, ())
     inside.lines.extend(f"    variations in {report} only" for report in sorted(deeper))
     if old.last_line != new.last_line:
@@ -168,16 +165,6 @@ def _compare_phase(found: Differences, old: Phase, new: Phase) -> None:
         inside.lines.append(f"    {old.last_line} -> {new.last_line}")
     if inside.lines:
         found.lines.extend([f"  {old.kind.value}", *inside.lines])
-
-
-def _compare_lines(found: Differences, old: list[HelpLine], new: list[HelpLine]) -> None:
-    before, after = {it.text for it in old}, {it.text for it in new}
-    for line in old:
-        if line.text not in after:
-            found.lose(line.text, "solutions")
-    for line in new:
-        if line.text not in before:
-            found.gain(line.text, "solutions")
 
 
 def _compare_nodes(

@@ -3,7 +3,6 @@
 from collections.abc import Iterable, Iterator, Sequence
 from dataclasses import dataclass
 from enum import Enum
-from typing import Union, overload
 
 from pops_companions.report.items import HelpLine, Node
 from pops_companions.report.moves import PlayedMove, prefix
@@ -47,28 +46,9 @@ class Dual:
         choices = " | ".join(move.text for move in self.choices)
         return f"{line_text(self.before)} {lead}{choices}"
 
-
-class DualLines(Sequence[str]):
-    """The texts of duals, each made when it is shown: a tree may have many thousands."""
-
-    def __init__(self, duals: Sequence[Dual]):
-        self._duals = duals
-
-    def __len__(self) -> int:
-        return len(self._duals)
-
-    @overload
-    def __getitem__(self, place: int) -> str: ...
-
-    @overload
-    def __getitem__(self, place: slice) -> Sequence[str]: ...
-
-    def __getitem__(self, place: Union[int, slice]) -> Union[str, Sequence[str]]:
-        if isinstance(place, slice):
-            return DualLines(self._duals[place])
-        dual = self._duals[place]
-        is_last = dual.place is Place.AT_THE_END
-        return dual.text if is_last else f"{dual.text} (ends on move {dual.end})"
+    def __str__(self) -> str:
+        """The line of a finding, made when it is shown: a tree may have many thousands."""
+        return self.text if self.place is Place.AT_THE_END else f"{self.text} (ends on move {self.end})"
 
 
 def move_number(half: int) -> int:

@@ -129,12 +129,8 @@ class JudgedReport:
     def _items(self, chunks: Iterable[bytes], line: int) -> Iterator[AnyItem]:
         return self._report.items(chunks, partial(read_unfinished_report, line=line))
 
-    def _items_to_end(self, chunks: Iterable[bytes], line: int) -> Iterator[AnyItem]:
-        yield from self._items(chunks, line)
-        self._report.end()
-
     def _judgements_to_end(self, chunks: Iterable[bytes], line: int) -> Iterator[Judgement]:
-        items = self._items_to_end(chunks, line)
+        items = self._report.all_of(self._items(chunks, line))
         yield from self._beside.judgements_of_piece(items, self._course)
         yield from self._beside.missing_at_end(self._course)
 

@@ -1,13 +1,13 @@
 """A page of HTML with the judgements: a table of all problems, and what was found of each."""
 
 import html
-from collections.abc import Iterable
+from collections.abc import Callable, Iterable, Iterator
 from typing import Optional
 
 from pops_companions.report.items import SoundItem
 from pops_companions.review.judged_groups import JudgedGroup
 from pops_companions.review.judgement_text import Tally, lines_of, name_of
-from pops_companions.review.judging import Finding
+from pops_companions.review.judging import Finding, Judgement
 from pops_companions.show import diagram
 from pops_companions.show.page import framed
 from pops_companions.show.titles import printable
@@ -23,28 +23,32 @@ def page(
     rows: list[str] = []
     articles: list[str] = []
     for place, one in enumerate(judged, start=1):
-        has_more = any(judgement.findings for judgement in one.judgements)
-        rows.append(_row(one, place if has_more else None, encoding))
-        if has_more:
-            articles.append(_article(one, place, encoding, most))
+        target = f"found-{place}" if any(it.findings for it in one.judgements) else ""
+        rows.append(row(one, target, encoding))
+        if target:
+            articles.append(article(one, target, encoding, _evidence(one, most)))
     head = "<tr><th>No.</th><th>Problem</th><th>Verdict</th></tr>\n"
     parts = [f"<p>{tally.text}</p>\n<table>\n{head}", *rows, "</table>\n", *articles]
     return framed(html.escape(heading), [STYLE], parts)
 
 
-def _row(one: JudgedGroup, place: Optional[int], encoding: str) -> str:
+def row(one: JudgedGroup, target: str, encoding: str, marked: str = "", more: str = "") -> str:
+    """Returns the table's row of a problem, which links to its article, if it has one."""
     number = one.group.numbers.partition(" ")[2]
-    if place is not None:
-        number = f'<a href="#found-{place}">{number}</a>'
+    if target:
+        number = f'<a href="#{target}">{number}</a>'
     name = html.escape(name_of(one, encoding))
     verdict = one.verdict.value
     return (
-        f'<tr><td>{number}</td><td class="name">{name}</td>'
-        f'<td class="{verdict}">{verdict}</td></tr>\n'
+        f'<tr><td>{number}</td><td class="name">{name}{marked}</td>'
+        f'<td class="{verdict}">{verdict}</td>{more}</tr>\n'
     )
 
 
-def _article(one: JudgedGroup, place: int, encoding: str, most: Optional[int]) -> str:
+def article(
+    one: JudgedGroup, target: str, encoding: str, evidence: Iterable[str], where: str = ""
+) -> str:
+    """Returns what is shown of a problem: diagram, name, verdict and evidence."""
     item = one.group.first
     verdict = one.verdict.value
     name = html.escape(name_of(one, encoding))
@@ -53,22 +57,26 @@ def _article(one: JudgedGroup, place: int, encoding: str, most: Optional[int]) -
         drawn = f"{diagram.diagram(item.board)}\n"
     position = f"{drawn}<p>{name}</p>\n" if name else drawn
     return (
-        f'<article id="found-{place}">\n<div>\n<h2>{one.group.numbers}</h2>\n{position}'
-        f'</div>\n<div>\n<p class="{verdict}">{verdict}</p>\n{_evidence(one, most)}</div>\n'
+        f'<article id="{target}">\n<div>\n<h2>{one.group.numbers}</h2>\n{position}{where}'
+        f'</div>\n<div>\n<p class="verdict {verdict}">{verdict}</p>\n{"".join(evidence)}</div>\n'
         "</article>\n"
     )
 
 
-def _evidence(one: JudgedGroup, most: Optional[int]) -> str:
-    """Returns what was found of a problem, or of each of its twins."""
-    parts = []
+def with_headings(
+    one: JudgedGroup, shown: Callable[[Judgement], Iterable[str]]
+) -> Iterator[str]:
+    """Yields what is shown of a problem, or of each of its twins below its heading."""
     for heading, judgement in one.headings:
         if heading:
             verdict = judgement.verdict.value
             text = html.escape(printable(heading))
-            parts.append(f'<h3>{text}: <span class="{verdict}">{verdict}</span></h3>\n')
-        parts.extend(finding_text(finding, most) for finding in judgement.findings)
-    return "".join(parts)
+            yield f'<h3>{text}: <span class="{verdict}">{verdict}</span></h3>\n'
+        yield from shown(judgement)
+
+
+def _evidence(one: JudgedGroup, most: Optional[int]) -> Iterator[str]:
+    return with_headings(one, lambda it: (finding_text(finding, most) for finding in it.findings))
 
 
 def finding_text(finding: Finding, most: Optional[int]) -> str:

@@ -31,8 +31,8 @@ COLUMNS = (
 def lines_of(finding: Finding, most: Optional[int]) -> list[str]:
     """Returns the first moves of a finding, and a line for the rest."""
     if most is None or len(finding.lines) <= most:
-        return list(finding.lines)
-    return [*finding.lines[:most], f"and {len(finding.lines) - most} more"]
+        return list(map(str, finding.lines))
+    return [*map(str, finding.lines[:most]), f"and {len(finding.lines) - most} more"]
 
 
 def as_text(judged: JudgedGroup, encoding: str, most: Optional[int]) -> str:

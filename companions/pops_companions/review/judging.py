@@ -5,7 +5,7 @@ from collections.abc import Sequence
 from copy import copy
 from dataclasses import dataclass, field
 from enum import Enum
-from typing import Optional
+from typing import Optional, Union
 
 from pops_companions.chess.game_counts import impossible_counts, surely_begun
 from pops_companions.chess.stipulation import Play, Stipulation
@@ -23,14 +23,7 @@ from pops_companions.report.items import (
 )
 from pops_companions.report.moves import Mark, PlayedMove
 from pops_companions.report.tries import FirstMove, TriesItem
-from pops_companions.review.duals import (
-    Dual,
-    DualLines,
-    Place,
-    late_partings,
-    reaches,
-    tree_duals,
-)
+from pops_companions.review.duals import Dual, Place, late_partings, reaches, tree_duals
 from pops_companions.review.mates import mates_in
 from pops_companions.review.naming import counted
 
@@ -61,6 +54,13 @@ class Weight(Enum):
     FLAW = "flaw"
     FAULT = "fault"
 
+    # (a member is its own only equal; Enum's hash takes longer)
+    __hash__ = object.__hash__
+
+
+# The verdict on a problem by the heaviest of its findings; without one of these it is sound.
+_VERDICTS = {Weight.FAULT: Verdict.FAULTY, Weight.FLAW: Verdict.UNSOUND, Weight.OPEN: Verdict.UNDECIDED}
+
 
 @dataclass(frozen=True)
 class Finding:
@@ -71,7 +71,7 @@ class Finding:
 
     weight: Weight
     text: str
-    lines: Sequence[str] = ()
+    lines: Sequence[Union[str, Dual]] = ()
     is_of_solutions: bool = False
 
 
@@ -108,14 +108,8 @@ class Judgement:
 
     @property
     def verdict(self) -> Verdict:
-        if not self.findings:
-            return Verdict.SOUND
-        weights = [finding.weight for finding in self.findings]
-        if Weight.FAULT in weights:
-            return Verdict.FAULTY
-        if Weight.FLAW in weights:
-            return Verdict.UNSOUND
-        return Verdict.UNDECIDED if Weight.OPEN in weights else Verdict.SOUND
+        weights = {finding.weight for finding in self.findings}
+        return next((it for weight, it in _VERDICTS.items() if weight in weights), Verdict.SOUND)
 
     @property
     def reasons(self) -> list[str]:
@@ -128,12 +122,11 @@ class Judgement:
         other.number, other.item, other.findings = item.number, item, list(self.findings)
         return other
 
-    def find(self, weight: Weight, text: str, lines: Sequence[str] = ()) -> None:
-        self.findings.append(Finding(weight, text, lines))
-
-    def find_in_solutions(self, weight: Weight, text: str, lines: Sequence[str] = ()) -> None:
-        """Adds a finding whose moves are among the solutions."""
-        self.findings.append(Finding(weight, text, lines, True))
+    def find(
+        self, weight: Weight, text: str, lines: Sequence[Union[str, Dual]] = (), in_solutions: bool = False
+    ) -> None:
+        """Adds a finding; `in_solutions` says that its moves are among the solutions."""
+        self.findings.append(Finding(weight, text, lines, in_solutions))
 
 
 def judged(
@@ -261,18 +254,18 @@ def _judge_unfinished(
     lines = () if play is None else play.texts
     if found > wanted:
         text = f"cooked: at least {counted(found, word)}, {wanted} wanted"
-        judgement.find_in_solutions(Weight.FLAW, text, lines)
-    is_short = _can_be_short(item.stipulation)
+        judgement.find(Weight.FLAW, text, lines, True)
+    stipulation = item.stipulation
     ending = [] if play is None else [it.text for it in play.nodes if _ends(it.move)]
     asked = (*(short or ()), *(text for text in ending if text not in (short or ())))
-    if is_short and asked:
+    if stipulation.moves > stipulation.least_moves and asked:
         judgement.short_solutions = len(asked)
         judgement.find(Weight.FLAW, f"at least {counted(len(asked), 'short solution')}", asked)
     if found > wanted:
         judgement.find(Weight.OPEN, f"unfinished: {item.unfinished}")
         return
     so_far = f"at least {counted(found, word)}, {wanted} wanted" if found else f"no {word} so far"
-    judgement.find_in_solutions(Weight.OPEN, f"unfinished: {so_far} ({item.unfinished})", lines)
+    judgement.find(Weight.OPEN, f"unfinished: {so_far} ({item.unfinished})", lines, True)
 
 
 def missing(number: int) -> Judgement:
@@ -288,17 +281,17 @@ def _judge_number(judgement: Judgement, stipulation: Stipulation, play: Phase) -
     judgement.solutions, judgement.stopped = found, play.total.stopped
     word = "solution" if stipulation.play is Play.HELP else "key"
     least = "at least " if judgement.stopped else ""
+    said = f"{least}{counted(found, word)}, {wanted} wanted"
+    weight, text = Weight.FLAW, "no solution"
     if found > wanted:
-        text = f"cooked: {least}{counted(found, word)}, {wanted} wanted"
-        judgement.find_in_solutions(Weight.FLAW, text, play.texts)
+        text = f"cooked: {said}"
     elif judgement.stopped:
-        text = f"stopped: {least}{counted(found, word)}, {wanted} wanted"
-        judgement.find_in_solutions(Weight.OPEN, text, play.texts)
-    elif found == 0:
-        judgement.find(Weight.FLAW, "no solution")
-    elif found < wanted:
-        text = f"solutions missing: {counted(found, word)}, {wanted} wanted"
-        judgement.find_in_solutions(Weight.FLAW, text, play.texts)
+        weight, text = Weight.OPEN, f"stopped: {said}"
+    elif 0 < found < wanted:
+        text = f"solutions missing: {said}"
+    elif found:
+        return
+    judgement.find(weight, text, play.texts, True)
 
 
 def _judge_keys(judgement: Judgement, stipulation: Stipulation, play: Phase) -> None:
@@ -320,7 +313,7 @@ def _judge_keys(judgement: Judgement, stipulation: Stipulation, play: Phase) -> 
 def _judge_short_solutions(
     judgement: Judgement, stipulation: Stipulation, play: Phase, asked: Optional[tuple[str, ...]]
 ) -> None:
-    if not _can_be_short(stipulation):
+    if stipulation.moves <= stipulation.least_moves:
         asked = ()
     lines = list(asked or ())
     all_shown = stipulation.play is not Play.HELP and not judgement.stopped
@@ -335,10 +328,6 @@ def _judge_short_solutions(
         judgement.find(Weight.OPEN, "short solutions not looked for")
         return
     judgement.short_solutions = len(lines)
-
-
-def _can_be_short(stipulation: Stipulation) -> bool:
-    return stipulation.moves > (0 if stipulation.half_more else 1)
 
 
 def _ends(move: PlayedMove) -> bool:
@@ -380,7 +369,7 @@ def _judge_keys_by_tries(judgement: Judgement, tries: TriesItem) -> None:
         move = key.text[:-1]
         if key.menace is Menace.THREAT:
             text = f"{move}: {counted(len(key.threats), 'threat')}"
-            judgement.find_in_solutions(Weight.NOTE, text, (_choices(key.threats),))
+            judgement.find(Weight.NOTE, text, (_choices(key.threats),), True)
         elif key.menace is not None:
             judgement.find(Weight.NOTE, f"{move}: {key.menace.value}")
     judgement.menaces = tuple(
@@ -397,7 +386,7 @@ def _judge_tries(judgement: Judgement, tries: TriesItem) -> None:
     if close:
         text = ("1 try" if len(close) == 1 else f"{len(close)} tries") + " with one refutation"
         lines = tuple(f"{one.text} {_refuted(one)}" for one in close)
-        judgement.find_in_solutions(Weight.NOTE, text, lines)
+        judgement.find(Weight.NOTE, text, lines, True)
 
 
 def _refuted(one: FirstMove) -> str:
@@ -428,7 +417,7 @@ def _find_duals(judgement: Judgement, where: str, duals: list[Dual]) -> None:
     promotions = sum(dual.by_promotion for dual in duals)
     of_these = f"; {promotions} by promotion alone" if promotions else ""
     text = f"{counted(len(duals), 'dual')} {where}: {places}{of_these}"
-    judgement.find(Weight.NOTE, text, DualLines(duals))
+    judgement.find(Weight.NOTE, text, duals)
 
 
 def _judge_set_play(judgement: Judgement, item: SoundItem, play: Phase) -> None:
@@ -442,14 +431,14 @@ def _judge_set_play(judgement: Judgement, item: SoundItem, play: Phase) -> None:
     least = "at least " if phase.total.stopped else ""
     if item.stipulation.play is Play.HELP:
         text = f"set play: {least}{counted(phase.total.count, 'solution')}"
-        judgement.find_in_solutions(Weight.NOTE, text, phase.texts)
+        judgement.find(Weight.NOTE, text, phase.texts, True)
         return
     provided = phase.nodes
     choices = sum(len(node.below) > 1 for node in provided)
     text = f"set play: {least}{counted(len(provided), 'move')} of Black provided for"
     if choices:
         text += f", {choices} with a choice"
-    judgement.find_in_solutions(Weight.NOTE, text, tuple(map(_with_continuations, provided)))
+    judgement.find(Weight.NOTE, text, tuple(map(_with_continuations, provided)), True)
     keys = play.nodes
     if phase.total.stopped or not any(key.below for key in keys):
         return

@@ -30,7 +30,7 @@ from pops_companions.report.items import AnyItem, Board, FaultyItem, HeadlessIte
 from pops_companions.report.reader import ReportError, read_unfinished_report
 from pops_companions.report.source import UNFINISHED
 from pops_companions.report.tries import TriesItem, is_of_item
-from pops_companions.review.kept_tries import tries_of_text
+from pops_companions.review.kept_text import tries_of_text
 from pops_companions.review.posing import posed_problems
 from pops_companions.review.work_folder import WorkFolder
 from pops_companions.sheet.boards import are_possible

@@ -5,7 +5,7 @@ from collections.abc import Callable, Hashable, Iterator
 from itertools import groupby
 from typing import NamedTuple, Optional
 
-from pops_companions.report.items import FaultyItem, Item, SoundItem
+from pops_companions.report.items import Item, SoundItem
 
 # In place of the checksum of what a problem lacks, and of the place of a problem that isn't found.
 _NOTHING = 0
@@ -35,10 +35,13 @@ class Heads:
 
     def add(self, item: Item) -> None:
         """Adds the next problem."""
-        self.wholes.append(_sum(_whole(item)))
-        self.names.append(_sum(_names(item)))
-        self.titles.append(_sum(item.title if isinstance(item, SoundItem) else None))
-        self.boards.append(_sum(item.board if isinstance(item, SoundItem) else None))
+        keys: tuple[Optional[Hashable], ...] = (None, None, None, None)
+        if isinstance(item, SoundItem):
+            names = None if item.title is None else (item.title, item.author)
+            whole = item.title, item.author, item.board, item.stipulation, item.condition
+            keys = (whole, names, item.title, item.board)
+        for sums, key in zip((self.wholes, self.names, self.titles, self.boards), keys):
+            sums.append(_NOTHING if key is None else hash(key) or 1)
 
     def is_faulty(self, place: int) -> bool:
         """Returns whether the problem in a place is faulty."""
@@ -46,22 +49,6 @@ class Heads:
 
     def __len__(self) -> int:
         return len(self.wholes)
-
-
-def _sum(key: Optional[Hashable]) -> int:
-    return _NOTHING if key is None else hash(key) or 1
-
-
-def _whole(item: Item) -> Optional[Hashable]:
-    if isinstance(item, FaultyItem):
-        return None
-    return item.title, item.author, item.board, item.stipulation, item.condition
-
-
-def _names(item: Item) -> Optional[Hashable]:
-    if isinstance(item, FaultyItem) or item.title is None:
-        return None
-    return item.title, item.author
 
 
 class Pairs:

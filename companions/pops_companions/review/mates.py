@@ -4,7 +4,7 @@ Only for orthodox men without a condition. Pins aren't looked at: a mate that ne
 its squares alone.
 """
 
-from collections.abc import Iterable, Iterator, Sequence
+from collections.abc import Iterable, Iterator
 from functools import lru_cache
 from typing import NamedTuple, Optional
 
@@ -12,20 +12,21 @@ from pops_companions.chess.attacks import squares_between
 from pops_companions.chess.men import FAIRY_KINDS, Man, Square
 from pops_companions.chess.stipulation import Goal, Play
 from pops_companions.report.items import HelpLine, PhaseKind, SoundItem
-from pops_companions.report.moves import Castling, Mark, PlayedMove
+from pops_companions.report.moves import Mark
+from pops_companions.report.steps import board_after, board_of, letters_of
 
 # The men of a board by their places in its letters: 0 is a8, 63 is h1.
 Men = dict[int, str]
 # A position with the mated king at 0,0: the men that take part, by their places from there.
 Picture = frozenset[tuple[int, int, str]]
 
+# What a mate is called; each is also what the names after it say.
+_NAMES = ("ideal", "model", "pure")
 _KING = "k"
 _OFFICERS = frozenset("QRBS")
 _FAIRY = frozenset(letter for kind in FAIRY_KINDS for letter in (kind.value, kind.value.lower()))
 _SQUARES = list(Square.of_diagram())
 _PLACES = {square: place for place, square in enumerate(_SQUARES)}
-# The places of a castling's rook from the king's: where it comes from, and where it goes.
-_OF_ROOK = {Castling.SHORT: (3, 1), Castling.LONG: (-4, -1)}
 
 
 class Mate(NamedTuple):
@@ -103,42 +104,18 @@ def _guarded(letter: str, origin: int, king: int) -> list[tuple[int, int]]:
 
 def mates_of(men: Men, lines: Iterable[HelpLine]) -> Iterator[Mate]:
     """Yields the mates that lines of help play end in; none of a line of other men."""
+    begin = board_of("".join(men.get(place, ".") for place in range(64)))
     # (many lines end in the same position)
-    known: dict[frozenset[tuple[int, str]], Optional[Mate]] = {}
+    known: dict[int, Optional[Mate]] = {}
     for line in lines:
-        if line.moves[-1].mark is not Mark.MATE:
+        last = board_after(begin, line.moves) if line.moves[-1].mark is Mark.MATE else None
+        if last is None:
             continue
-        last = _after(men, line.moves)
-        position = frozenset(last.items())
-        if position not in known:
-            known[position] = mate_of(last)
-        mate = known[position]
+        if last not in known:
+            known[last] = mate_of(men_of(letters_of(last)))
+        mate = known[last]
         if mate is not None:
             yield mate
-
-
-def _after(men: Men, moves: Sequence[PlayedMove]) -> Men:
-    """Returns the men after some moves; none where a move has no man."""
-    now = men.copy()
-    for move in moves:
-        origin, arrival = _PLACES[move.origin], _PLACES[move.arrival]
-        man = now.pop(origin, None)
-        if man is None:
-            return {}
-        if move.en_passant:
-            now.pop(origin - origin % 8 + arrival % 8, None)
-        if move.promotion is not None:
-            letter = move.promotion.value
-            man = letter if man.isupper() else letter.lower()
-        now[arrival] = man
-        if move.castling is not None:
-            corner, crossed = _OF_ROOK[move.castling]
-            if origin + corner not in now:
-                return {}
-            now[origin + crossed] = now.pop(origin + corner)
-        if move.rebirth is not None:
-            now[_PLACES[move.rebirth.square]] = move.rebirth.man.letter
-    return now
 
 
 def keywords_of(mates: Iterable[Mate]) -> list[str]:
@@ -153,16 +130,7 @@ def keywords_of(mates: Iterable[Mate]) -> list[str]:
         pure[mate] = None
     if not pure:
         return []
-    names = {mate.name for mate in pure}
-    found = []
-    for name, wanted in (
-        ("ideal mates", {"ideal"}),
-        ("model mates", {"ideal", "model"}),
-        ("pure mates", {"ideal", "model", "pure"}),
-    ):
-        if names <= wanted:
-            found.append(name)
-            break
+    found = [f"{max((mate.name for mate in pure), key=_NAMES.index)} mates"]
     shades = [{(king % 8 + king // 8) % 2 for king, _ in it} for it in _echoes(pure)]
     if any(len(it) == 2 for it in shades):
         found.append("chameleon echo")

@@ -29,8 +29,8 @@ def shorter(stipulation: Stipulation) -> list[Stipulation]:
     if stipulation.play is not Play.HELP:
         moves = stipulation.moves - 1
         return [replace(stipulation, moves=moves)] if moves > 0 else []
-    fewest = 0 if stipulation.half_more else 1
-    return [replace(stipulation, moves=moves) for moves in range(fewest, stipulation.moves)]
+    fewer = range(stipulation.least_moves, stipulation.moves)
+    return [replace(stipulation, moves=moves) for moves in fewer]
 
 
 def posed_problems(problems: Iterable[GivenProblem]) -> Iterator[list[str]]:

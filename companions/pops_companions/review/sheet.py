@@ -8,12 +8,11 @@ from typing import NamedTuple, Optional
 from pops_companions.report.items import Board, SoundItem
 from pops_companions.report.tries import TriesItem
 from pops_companions.review.judged_groups import JudgedGroup
-from pops_companions.review.judgement_page import STYLE, finding_text
-from pops_companions.review.judgement_text import Tally, name_of
+from pops_companions.review.judgement_page import STYLE, article, finding_text, row, with_headings
+from pops_companions.review.judgement_text import Tally
 from pops_companions.review.judging import Judgement
 from pops_companions.sheet.languages import LANGUAGES, marked_as
 from pops_companions.sheet.solution import Solution, shortened
-from pops_companions.show import diagram
 from pops_companions.show.page import framed
 from pops_companions.show.titles import printable, shown
 from pops_companions.stored import stored_text
@@ -65,17 +64,11 @@ def _id(one: JudgedGroup) -> str:
 
 
 def _row(one: JudgedGroup, evidence: Evidence) -> str:
-    number = one.group.numbers.partition(" ")[2]
-    name = html.escape(name_of(one, evidence.encoding))
-    verdict = one.verdict.value
     reasons = [reason for judgement in one.judgements for reason in judgement.reasons]
     men = dict.fromkeys(text for judgement in one.judgements for text in judgement.impossible_men)
     marked = f' <em>(no game: {html.escape("; ".join(men))})</em>' if men else ""
-    return (
-        f'<tr><td><a href="#{_id(one)}">{number}</a></td><td class="name">{name}{marked}</td>'
-        f'<td class="{verdict}">{verdict}</td>{_cells(one)}'
-        f'<td class="why">{html.escape("; ".join(reasons))}</td></tr>\n'
-    )
+    why = f'<td class="why">{html.escape("; ".join(reasons))}</td>'
+    return row(one, _id(one), evidence.encoding, marked, _cells(one) + why)
 
 
 def _cells(one: JudgedGroup) -> str:
@@ -97,36 +90,21 @@ def _sum(one: Optional[int], other: Optional[int]) -> Optional[int]:
 
 
 def _article(one: JudgedGroup, evidence: Evidence) -> str:
-    item = one.group.first
-    verdict = one.verdict.value
-    drawn = ""
-    if isinstance(item, SoundItem) and item.board is not None:
-        drawn = f"{diagram.diagram(item.board)}\n"
-    name = html.escape(name_of(one, evidence.encoding))
     given = one.group.twins[0].given
-    origin = None if given is None else given.origin
     where = ""
-    if origin is not None:
-        text = html.escape(printable(shown(origin, evidence.encoding)))
+    if given is not None and given.origin is not None:
+        text = html.escape(printable(shown(given.origin, evidence.encoding)))
         where = f'<p class="origin">{text}</p>\n'
-    return (
-        f'<article id="{_id(one)}">\n<div>\n<h2>{one.group.numbers}</h2>\n{drawn}<p>{name}</p>\n'
-        f'{where}</div>\n<div>\n<p class="verdict {verdict}">{verdict}</p>\n'
-        f"{''.join(_of_twins(one, evidence))}</div>\n</article>\n"
-    )
+    found = with_headings(one, lambda it: _found(it, evidence))
+    return article(one, _id(one), evidence.encoding, found, where)
 
 
-def _of_twins(one: JudgedGroup, evidence: Evidence) -> Iterable[str]:
-    for heading, judgement in one.headings:
-        if heading:
-            verdict = judgement.verdict.value
-            text = html.escape(printable(heading))
-            yield f'<h3>{text}: <span class="{verdict}">{verdict}</span></h3>\n'
-        for finding in judgement.findings:
-            # (the solutions come once, in short notation)
-            lines = () if finding.is_of_solutions else finding.lines
-            yield finding_text(replace(finding, lines=lines), evidence.most)
-        yield _folded("solutions", solutions_of(judgement, evidence))
+def _found(judgement: Judgement, evidence: Evidence) -> Iterable[str]:
+    for finding in judgement.findings:
+        # (the solutions come once, in short notation)
+        lines = () if finding.is_of_solutions else finding.lines
+        yield finding_text(replace(finding, lines=lines), evidence.most)
+    yield _folded("solutions", solutions_of(judgement, evidence))
 
 
 def solutions_of(judgement: Judgement, evidence: Evidence) -> list[str]:

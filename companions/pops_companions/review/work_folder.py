@@ -83,6 +83,8 @@ class WorkFolder:
         self.path = path
         self._mark = b""
         self._programs: Programs = {}
+        # The folder as it is open and locked, once it is begun.
+        self._handle = -1
 
     def begin(self, text: bytes, programs: Programs, resume: bool) -> None:
         """Makes the folder for an input, or takes up that of a run that was stopped.
@@ -131,19 +133,16 @@ class WorkFolder:
         # (the run before this one may have removed it meanwhile)
         with suppress(FileNotFoundError):
             if os.path.samestat(os.fstat(handle), os.lstat(self.path)):
+                self._handle = handle
                 return True
         close()
         return False
 
     def _refuse_foreign(self) -> None:
         """Refuses a folder that this program didn't make, and links in one that it made."""
-        handle = os.open(self.path, _FOLDER)
-        try:
-            names = os.listdir(handle)
-            is_own = os.fstat(handle).st_uid == os.geteuid()
-            kinds = [os.stat(it, dir_fd=handle, follow_symlinks=False).st_mode for it in names]
-        finally:
-            os.close(handle)
+        names = os.listdir(self._handle)
+        is_own = os.fstat(self._handle).st_uid == os.geteuid()
+        kinds = [os.stat(it, dir_fd=self._handle, follow_symlinks=False).st_mode for it in names]
         # (killed right after it made the folder, a run left no mark)
         is_empty = all(_OWN.fullmatch(it) and it.startswith(f"{_MARK}.") for it in names)
         if not is_own or not all(map(stat.S_ISREG, kinds)) or not (_MARK in names or is_empty):
@@ -207,13 +206,9 @@ class WorkFolder:
 
     def empty(self, with_mark: bool = False) -> None:
         """Removes what is the program's own, but for the mark, which may go last."""
-        handle = os.open(self.path, _FOLDER)
-        try:
-            for name in sorted(os.listdir(handle), key=lambda it: it == _MARK):
-                if _OWN.fullmatch(name) and (with_mark or name != _MARK):
-                    os.unlink(name, dir_fd=handle)
-        finally:
-            os.close(handle)
+        for name in sorted(os.listdir(self._handle), key=lambda it: it == _MARK):
+            if _OWN.fullmatch(name) and (with_mark or name != _MARK):
+                os.unlink(name, dir_fd=self._handle)
 
     def remove(self) -> bool:
         """Removes what is the program's own; returns whether nothing else was in the folder."""

@@ -19,7 +19,7 @@ from pops_companions.report import lines
 from pops_companions.report.items import AnyItem, FaultyItem
 from pops_companions.report.reader import read_unfinished_report
 from pops_companions.report.tries import TriesItem
-from pops_companions.review.kept_tries import tries_of_text
+from pops_companions.review.kept_text import tries_of_text
 
 
 class Solving:
