@@ -9,99 +9,136 @@
 docs/API.md shows its use. What `__all__` names stays as it is within a major version.
 """
 
-from types import ModuleType as _ModuleType
-
-from pops.asynchronous import AsyncRun as AsyncRun
-from pops.diagnostics import explain as explain
-from pops.engine import Engine as Engine
-from pops.run import (
-    Ending as Ending,
-    Limits as Limits,
-    Result as Result,
-    Run as Run,
-)
+from pops.asynchronous import AsyncRun
+from pops.diagnostics import explain
+from pops.engine import Engine
+from pops.run import Ending, Limits, Result, Run
 from pops_companions import places
-from pops_companions.chess.fen import FenError as FenError
-from pops_companions.chess.men import (
-    Colour as Colour,
-    Kind as Kind,
-    Man as Man,
-    Square as Square,
-)
-from pops_companions.chess.stipulation import (
-    Condition as Condition,
-    Goal as Goal,
-    Play as Play,
-    Stipulation as Stipulation,
-)
-from pops_companions.explain.diagnostics import (
-    Diagnostic as Diagnostic,
-    Fix as Fix,
-    Range as Range,
-)
-from pops_companions.input.writing import Problem as Problem
-from pops_companions.many.program import (
-    MissingError as MissingError,
-    RunError as RunError,
-)
+from pops_companions.chess.fen import FenError
+from pops_companions.chess.men import Colour, Kind, Man, Square
+from pops_companions.chess.stipulation import Condition, Goal, Play, Stipulation
+from pops_companions.explain.diagnostics import Diagnostic, Fix, Range
+from pops_companions.input.writing import Problem
+from pops_companions.many.program import MissingError, RunError
 from pops_companions.report.events import (
-    CheckedEvent as CheckedEvent,
-    EndEvent as EndEvent,
-    Event as Event,
-    FaultEvent as FaultEvent,
-    FirstMoveEvent as FirstMoveEvent,
-    FirstMoveKind as FirstMoveKind,
-    HeadEvent as HeadEvent,
-    LineEvent as LineEvent,
-    Menace as Menace,
-    MenaceEvent as MenaceEvent,
-    NodeEvent as NodeEvent,
-    NotPossibleEvent as NotPossibleEvent,
-    NoTriesEvent as NoTriesEvent,
-    PhaseEvent as PhaseEvent,
-    Place as Place,
-    ProblemEvent as ProblemEvent,
-    RefutationEvent as RefutationEvent,
-    StalemateEvent as StalemateEvent,
-    TotalEvent as TotalEvent,
-    TriesEvent as TriesEvent,
-    TriesTotalEvent as TriesTotalEvent,
+    CheckedEvent,
+    EndEvent,
+    Event,
+    FaultEvent,
+    FirstMoveEvent,
+    FirstMoveKind,
+    HeadEvent,
+    LineEvent,
+    Menace,
+    MenaceEvent,
+    NodeEvent,
+    NotPossibleEvent,
+    NoTriesEvent,
+    PhaseEvent,
+    Place,
+    ProblemEvent,
+    RefutationEvent,
+    StalemateEvent,
+    TotalEvent,
+    TriesEvent,
+    TriesTotalEvent,
 )
 from pops_companions.report.items import (
-    Board as Board,
-    Fault as Fault,
-    FaultyItem as FaultyItem,
-    HeadlessItem as HeadlessItem,
-    HelpLine as HelpLine,
-    Node as Node,
-    Phase as Phase,
-    PhaseKind as PhaseKind,
-    SoundItem as SoundItem,
-    Total as Total,
+    Board,
+    Fault,
+    FaultyItem,
+    HeadlessItem,
+    HelpLine,
+    Node,
+    Phase,
+    PhaseKind,
+    SoundItem,
+    Total,
 )
-from pops_companions.report.moves import (
-    Castling as Castling,
-    Mark as Mark,
-    PlayedMove as PlayedMove,
-    Rebirth as Rebirth,
-)
+from pops_companions.report.moves import Castling, Mark, PlayedMove, Rebirth
 from pops_companions.report.reader import (
-    Allowed as Allowed,
-    read_report as read_report,
-    read_unfinished_report as read_unfinished_report,
-    ReportError as ReportError,
-    ReportReader as ReportReader,
+    Allowed,
+    ReportReader,
+    ReportError,
+    read_report,
+    read_unfinished_report,
 )
 from pops_companions.report.tries import (
-    FirstMove as FirstMove,
-    read_tries as read_tries,
-    read_unfinished_tries as read_unfinished_tries,
-    TriesItem as TriesItem,
-    TriesReader as TriesReader,
+    FirstMove,
+    TriesItem,
+    TriesReader,
+    read_tries,
+    read_unfinished_tries,
 )
 
 __version__ = places.number()
-# What is imported by its own name is public; the modules are not.
+
 __all__ = [
-    name for name, it in vars().items() if name[0] != "_" and not isinstance(it, _ModuleType)
+    "Allowed",
+    "AsyncRun",
+    "Board",
+    "Castling",
+    "CheckedEvent",
+    "Colour",
+    "Condition",
+    "Diagnostic",
+    "EndEvent",
+    "Ending",
+    "Engine",
+    "Event",
+    "Fault",
+    "FaultEvent",
+    "FaultyItem",
+    "FenError",
+    "FirstMove",
+    "FirstMoveEvent",
+    "FirstMoveKind",
+    "Fix",
+    "Goal",
+    "HeadEvent",
+    "HeadlessItem",
+    "HelpLine",
+    "Kind",
+    "Limits",
+    "LineEvent",
+    "Man",
+    "Mark",
+    "Menace",
+    "MenaceEvent",
+    "MissingError",
+    "NoTriesEvent",
+    "Node",
+    "NodeEvent",
+    "NotPossibleEvent",
+    "Phase",
+    "PhaseEvent",
+    "PhaseKind",
+    "ReportReader",
+    "Place",
+    "Play",
+    "PlayedMove",
+    "Problem",
+    "ProblemEvent",
+    "Range",
+    "Rebirth",
+    "RefutationEvent",
+    "ReportError",
+    "Result",
+    "Run",
+    "RunError",
+    "SoundItem",
+    "Square",
+    "StalemateEvent",
+    "Stipulation",
+    "Total",
+    "TotalEvent",
+    "TriesEvent",
+    "TriesItem",
+    "TriesReader",
+    "TriesTotalEvent",
+    "explain",
+    "read_report",
+    "read_tries",
+    "read_unfinished_report",
+    "read_unfinished_tries",
 ]
