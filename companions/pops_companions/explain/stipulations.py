@@ -6,7 +6,7 @@ from typing import Any, Optional
 
 from pops_companions.chess.stipulation import MOST_MOVES
 from pops_companions.explain import wanted, wordings
-from pops_companions.explain.case import Case, Explanation, first_cause, quoted
+from pops_companions.explain.case import Case, Explanation, first_cause, known, quoted
 from pops_companions.explain.characters import decoded
 from pops_companions.explain.sentences import DATA, sentence
 from pops_companions.input.reading import COLOURS, CONDITIONS, OPTIONS, is_man, is_number
@@ -216,8 +216,7 @@ def _has_two_pieces(case: Case) -> bool:
 @first_cause
 def second_stipulation(case: Case) -> Iterator[Optional[Explanation]]:
     """Explains a second stipulation."""
-    given = case.reading.stipulation_word
-    assert given is not None
+    given = known(case.reading.stipulation_word)
     yield wordings.invisible(case)
     if not looks_like_stipulation(case.plain):
         yield wordings.comment(case)
