@@ -196,12 +196,10 @@ class NamedText:
             raise CommandError(Status.DEVICE, message) from None
 
     def all_of(self, some: Iterator[Any], may_be_empty: bool = False) -> Iterator[Any]:
-        """Yields all that is read of the text, and ends it."""
+        """Yields all that is read of the text. Refuses one without items, and says whose names aren't in
+        the encoding.
+        """
         yield from some
-        self.end(may_be_empty)
-
-    def end(self, may_be_empty: bool = False) -> None:
-        """Refuses a text without items, and says whose names aren't in the encoding."""
         if self._is_empty and not may_be_empty:
             raise CommandError(Status.DEVICE, f"{self._name} is empty: no {self._text.value}")
         _warn_of_names(self._companion, self._name, self.undecodable, self._encoding)
