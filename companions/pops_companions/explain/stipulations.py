@@ -63,7 +63,9 @@ def bad_stipulation(case: Case) -> Iterator[Optional[Explanation]]:
     )
     yield wordings.signs(case)
     yield _number_in_words(case)
-    yield _in_words(case)
+    if is_number(case.word.bytes):
+        yield case.tells("only_number")
+    yield _said_in_words(case, case.rest_of_line(_MOST_WORDS))
     yield wordings.in_another_language(case)
     # (as a comment `#three` would leave the problem without a stipulation)
     if not case.plain.startswith("#"):
@@ -161,12 +163,6 @@ def _number_in_words(case: Case) -> Optional[Explanation]:
         return None
     whole = found[1] + _NUMBERS[found[2]]
     return case.tells("in_words", whole=whole) if case.fits(whole) else None
-
-
-def _in_words(case: Case) -> Optional[Explanation]:
-    if is_number(case.word.bytes):
-        return case.tells("only_number")
-    return _said_in_words(case, case.rest_of_line(_MOST_WORDS))
 
 
 def _white_mates(case: Case) -> Optional[Explanation]:
