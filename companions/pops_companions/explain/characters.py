@@ -4,6 +4,7 @@ import unicodedata
 from typing import Any, Optional
 
 from pops_companions.explain.sentences import DATA
+from pops_companions.show import titles
 
 _KNOWN: dict[str, Any] = DATA["characters"]
 _LIKE = {name: dict(zip(*_KNOWN[name])) for name in ("cyrillic", "greek")}
@@ -20,10 +21,7 @@ def name_of(character: str) -> str:
 
 def decoded(text: bytes) -> str:
     """Returns the text of some bytes: as UTF-8 if they are, else as Latin-1."""
-    try:
-        return text.decode("utf-8")
-    except UnicodeDecodeError:
-        return text.decode("latin-1")
+    return titles.shown(text, "utf-8")
 
 
 def shown(text: bytes) -> str:
