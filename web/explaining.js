@@ -102,9 +102,9 @@ export function* explainFault(text, { number, fault, place: known }) {
   const read = companions.readNumber(bytes, place);
   if (isLong) yield;
   const line = read && lineOfFault(bytes, read) + lineOf(text, from) - 1;
-  const isCut = start + alone.length < to && read?.at !== null && read?.word.span.stop === bytes.length;
+  const isCut = start + alone.length < to && read?.at !== null && read?.fault_span.stop === bytes.length;
   if (read?.number?.value !== fault.number || line !== fault.line || isCut) return null;
-  const own = known && spanIn(alone, bytes, read.at === null ? { start: bytes.length, stop: bytes.length } : read.word.span);
+  const own = known && spanIn(alone, bytes, read.fault_span);
   if (own && (own.from + start !== known.from || own.to + start !== known.to)) return null;
   const said = explanationOf(alone, read);
   return { text: said.text, marks: said.marks.map(mark => ({ from: mark.from + start, to: mark.to + start })) };

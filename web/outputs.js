@@ -72,9 +72,7 @@ export function shortText(item, men) {
   const given = knownItem(item);
   const blocks = new companions.Solution(knownMen(men), given.condition, words).blocks(given, knownTries(item));
   const marks = companions.markedAs(words, py.dict());
-  const lines = blocks.flatMap((/** @type {any} */ block) => [...(blocks.length > 1 ? [block.heading] : []),
-    ...block.lines.map((/** @type {any} */ it) => '  '.repeat(it.level + (blocks.length > 1 ? 1 : 0)) + py.translate(it.text, marks))]);
-  return `${lines.join('\n')}\n`;
+  return `${companions.linesOf(blocks, marks).join('\n')}\n`;
 }
 
 /**

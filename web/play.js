@@ -1,28 +1,12 @@
 // @ts-check
 // Moves played on the board, and problems that continue from a position. Nothing here judges a move: the engine does.
-import { after, manAt, other, placeOf } from './position.js';
+import { knownSide } from './items.js';
+import { companions } from './out/companions.js';
+import { after, manAt, other } from './position.js';
 import { labelOf } from './report.js';
 import { barredIn, fieldsOf, sidesOf, turnOf, valueOf, withFen } from './text.js';
 
 const HOME_SQUARES = ['a1', 'e1', 'h1', 'a8', 'e8', 'h8'];
-// The rebirth squares of Circe, for White and Black: queens; rooks, bishops and knights on light and on dark squares.
-/** @type {{ Q: Square[], light: Record<string, Square[]>, dark: Record<string, Square[]> }} */
-const REBIRTHS = { Q: ['d1', 'd8'], light: { R: ['h1', 'a8'], B: ['f1', 'c8'], S: ['b1', 'g8'] }, dark: { R: ['a1', 'h8'], B: ['c1', 'f8'], S: ['g1', 'b8'] } };
-
-/**
- * Returns the square on which a man captured on a square is reborn in Circe; null for a king. (The manual, The rules in force)
- * @param {Man} man
- * @param {Square} square
- */
-function rebirthSquare([colour, kind], square) {
-  const isWhite = colour === 'w';
-  if (kind === 'K') return null;
-  if (kind === 'P') return square[0] + (isWhite ? '2' : '7');
-  if (kind === 'G' || kind === 'N') return square[0] + (isWhite ? '8' : '1');
-  const [file, rank] = placeOf(square);
-  const squares = kind === 'Q' ? REBIRTHS.Q : REBIRTHS[(file + rank) % 2 ? 'light' : 'dark'][kind];
-  return squares[isWhite ? 0 : 1];
-}
 
 /**
  * Returns whether a move takes a pawn to its last rank.
@@ -62,10 +46,18 @@ export function moveBetween(men, { from, to, promotion, half, isCirce }) {
   return { ...move, said, label: said };
 }
 
-/** @param {Men} men @param {Man} taken @param {Square} place */
+/**
+ * Returns where a captured man is reborn in Circe; null for a king, and where a man stands there.
+ * @param {Men} men
+ * @param {Man} taken
+ * @param {Square} place where it is captured
+ */
 function rebirthOf(men, taken, place) {
-  const square = rebirthSquare(taken, place);
-  return square && !men.has(square) ? { square, man: taken } : null;
+  const [colour, kind] = taken;
+  if (kind === 'K') return null;
+  const man = new companions.Man(knownSide(/** @type {Colour} */ (colour)), companions.Kind.of(kind));
+  const square = companions.rebirthSquare(man, companions.Square.of_name(place)).name;
+  return men.has(square) ? null : { square, man: taken };
 }
 
 /** @param {Move} move */

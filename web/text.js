@@ -26,8 +26,6 @@ export const NEW_PROBLEM = 'BeginProblem\nStipulation #2\nEndProblem\n';
 export const withNewProblem = text => `${text}${!text || text.endsWith('\n') ? '' : '\n'}${NEW_PROBLEM}`;
 /** @param {string} word @param {string} full */
 export const isShort = (word, full) => word.length >= 3 && full.toLowerCase().startsWith(word.toLowerCase());
-/** @param {string} word */
-const commandOf = word => COMMANDS.find(command => isShort(word, command));
 
 /** @param {string | undefined} command */
 const isTextCommand = command => command !== undefined && TEXT_LINES.includes(command);
@@ -82,9 +80,10 @@ function* readWords(text, isLast = () => false) {
   const words = [];
   const pattern = /[^ \t\n\v\f\r]+/g;
   for (let found; (found = pattern.exec(text));) {
-    const command = commandOf(found[0]);
+    const [word] = found;
+    const command = COMMANDS.find(it => isShort(word, it));
     /** @type {Token} */
-    const token = { word: found[0], from: found.index, to: pattern.lastIndex, command };
+    const token = { word, from: found.index, to: pattern.lastIndex, command };
     words.push(token);
     if (isLast(token)) break;
     if (isTextCommand(command)) {

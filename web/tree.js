@@ -232,19 +232,14 @@ export class Tree {
       if (index < box.groups.length) this.growPhase(box.groups[index], phase, /** @type {SoundItem} */ (item));
       else box.append(...this.drawnPhase(phase, /** @type {SoundItem} */ (item), box));
     });
-    if (item.asked?.isHelp || !isComparable(this.phasesOf(box))) return;
+    if (item.asked?.isHelp || !isComparable(box.groups)) return;
     box.append(box.compared);
     if (box.compared.open) this.fillComparison(box);
   }
 
-  /** @param {any} box @returns {{ kind: string, rows: TreeRow[] }[]} */
-  phasesOf(box) {
-    return box.groups.map((/** @type {Group} */ group) => ({ kind: group.kind, rows: group.rows }));
-  }
-
   /** @param {any} box */
   fillComparison(box) {
-    const made = /** @type {Comparison<TreeRow>} */ (comparisonOf(this.phasesOf(box)));
+    const made = /** @type {Comparison<TreeRow>} */ (comparisonOf(box.groups));
     const table = document.createElement('table');
     const heads = made.columns.map(({ label, row }) => this.comparedCell('th', row ? [row] : [], [label]));
     table.append(this.tableRow('', heads));

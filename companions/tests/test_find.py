@@ -14,7 +14,8 @@ from unittest import mock
 from pops_companions.chess.men import Man, Square
 from pops_companions.find.boards import board_of, differences, men_of, variants
 from pops_companions.find.collection import Collection, CollectionError
-from pops_companions.find.entries import Entry, items_of, men_in, mirrored_play, play_of
+from pops_companions.find.entries import Entry, items_of, mirrored_play, play_of
+from pops_companions.input.writing import men_in
 from tests import run_here, support
 
 MORPHY = "White Kc8 Ra1 Pb6 Black Ka8 Bb8 Pa7b7"

@@ -539,7 +539,7 @@ class Judging(support.InRoom):
 
     def test_the_table_shows_each_threat_and_men_that_no_game_has(self) -> None:
         """Three keys, of which one only waits, as report and text of tries name them."""
-        threats = "\\n  threat\\n    2.Ra1-a8#\\n    2.Rb1-b8#\\n"
+        threats = "\\n  threat\\n    2.Rb1-b7#\\n    2.Rb1-b8#\\n"
         keys = "".join(f"1.Kf6-{it}!{threats}" for it in ("f7", "g6"))
         play = f"play\\n1.Kf6-e6!\\n  zugzwang\\n{keys}solutions: 3\\ntries\\ntries: 0\\n\\n"
         tries = self.script("tries", f"cat > /dev/null\nprintf 'problem 1\\n#2\\n{play}'\n")

@@ -8,7 +8,7 @@ from unittest import mock
 
 from pops_companions.chess.attacks import attackers
 from pops_companions.chess.men import Colour, Kind, Man, Square
-from pops_companions.find.entries import men_in
+from pops_companions.input.writing import men_in
 from pops_companions.report.items import Board, HelpLine, SoundItem
 from pops_companions.report.reader import read_report
 from pops_companions.review.mates import Mate, Men, keywords_of, mate_of, mates_in, mates_of, men_of

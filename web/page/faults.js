@@ -17,9 +17,6 @@ const corrected = { take: (/** @type {Corrected} */ _) => {}, convert: () => {} 
 /** What explains the faults that are drawn, and corrects them. */
 export const faultWork = new Work();
 
-/** @type {(item: Item) => item is FaultyItem} */
-const hasFault = /** @type {any} */ ((/** @type {Item} */ item) => item.fault !== null);
-
 export function unmarkFaults() {
   element('gutter').replaceChildren();
 }
@@ -28,9 +25,9 @@ export function unmarkFaults() {
 export function markFaults() {
   unmarkFaults();
   if (!state.isSolved()) return;
-  for (const { fault } of state.items.filter(hasFault).slice(0, MARKED_FAULTS)) {
+  for (const { line } of state.items.flatMap(it => it.fault ?? []).slice(0, MARKED_FAULTS)) {
     const mark = madeWith('span', '!');
-    mark.dataset.line = String(fault.line);
+    mark.dataset.line = String(line);
     element('gutter').append(mark);
   }
   placeMarks();

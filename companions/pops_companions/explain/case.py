@@ -3,7 +3,7 @@
 import re
 from collections.abc import Callable, Iterator, Sequence
 from dataclasses import dataclass, replace
-from typing import Optional
+from typing import Optional, TypeVar
 
 from pops_companions.explain.characters import beginning, decoded
 from pops_companions.explain.sentences import DATA, sentence
@@ -15,6 +15,7 @@ _LONGEST_QUOTED = 48
 _NEAR = 400
 _LAST_WORD = re.compile(rb"([^\t\n\x0b\x0c\r ]+)[\t\n\x0b\x0c\r ]+$")
 NAMES = (*COMMANDS, *TEXT_WORDS, *CONDITIONS, *OPTIONS, "White", "Black")
+Value = TypeVar("Value")
 
 
 def _form(text: str) -> "re.Pattern[str]":
@@ -139,6 +140,12 @@ class Case:
     def openers_of(self, section: str) -> list[Word]:
         """Returns the commands that open sections of this kind in the problem."""
         return [it for it in self.reading.openers if named(it.bytes, [section])]
+
+
+def known(value: Optional[Value]) -> Value:
+    """Returns what there is for certain with the fault at hand."""
+    assert value is not None
+    return value
 
 
 def at(text: str, *marks: Span) -> Explanation:

@@ -4,10 +4,12 @@ import unicodedata
 from typing import Any, Optional
 
 from pops_companions.explain.sentences import DATA
+from pops_companions.show import titles
 
 _KNOWN: dict[str, Any] = DATA["characters"]
 _LIKE = {name: dict(zip(*_KNOWN[name])) for name in ("cyrillic", "greek")}
-_FIGURINES: dict[str, str] = dict(zip(*_KNOWN["figurines"]))
+# The chessmen of Unicode.
+FIGURINES: dict[str, str] = dict(zip(*_KNOWN["figurines"]))
 _NAMES: dict[str, str] = _KNOWN["names"]
 
 
@@ -19,10 +21,7 @@ def name_of(character: str) -> str:
 
 def decoded(text: bytes) -> str:
     """Returns the text of some bytes: as UTF-8 if they are, else as Latin-1."""
-    try:
-        return text.decode("utf-8")
-    except UnicodeDecodeError:
-        return text.decode("latin-1")
+    return titles.shown(text, "utf-8")
 
 
 def shown(text: bytes) -> str:
@@ -49,13 +48,8 @@ def _is_invisible(character: str) -> bool:
 
 def width(text: str) -> int:
     """Returns how many columns a text takes on a terminal."""
-    return sum(_width(character) for character in text)
-
-
-def _width(character: str) -> int:
-    if unicodedata.combining(character):
-        return 0
-    return 2 if unicodedata.east_asian_width(character) in "WF" else 1
+    shown_ones = [it for it in text if not unicodedata.combining(it)]
+    return len(shown_ones) + sum(unicodedata.east_asian_width(it) in "WF" for it in shown_ones)
 
 
 def invisible(text: str) -> Optional[str]:
@@ -85,7 +79,7 @@ def plain(text: str) -> str:
 
 
 def _plain(character: str) -> str:
-    tables: list[dict[str, str]] = [*_LIKE.values(), _FIGURINES]
+    tables: list[dict[str, str]] = [*_LIKE.values(), FIGURINES]
     for table in tables:
         if character in table:
             return table[character]
@@ -98,11 +92,6 @@ def script_of(character: str) -> str:
     script = next((name for name, table in _LIKE.items() if character in table), "fullwidth")
     scripts: dict[str, str] = _KNOWN["scripts"]
     return scripts[script]
-
-
-def is_figurine(character: str) -> bool:
-    """Returns whether it is a chessman of Unicode."""
-    return character in _FIGURINES
 
 
 def without_accents(text: str) -> str:

@@ -4,7 +4,7 @@ from collections.abc import Iterator
 from typing import Optional
 
 from pops_companions.explain import wordings
-from pops_companions.explain.case import Case, Explanation, at, first_cause, quoted
+from pops_companions.explain.case import Case, Explanation, at, first_cause, known, quoted
 from pops_companions.explain.characters import shown
 from pops_companions.explain.sentences import sentence
 from pops_companions.input.reading import Awaited
@@ -35,8 +35,7 @@ def _lacking(case: Case, section: str, example: str) -> Iterator[Optional[Explan
 
 def _absent(case: Case, what: str, example: str) -> Explanation:
     """Returns what the problem lacks, with the word after which it may be."""
-    before = case.before
-    assert before is not None
+    before = known(case.before)
     place = sentence(
         "below_line", line=before.line
     ) if before.line < case.word.line else sentence("before_word", word=case.quoted)

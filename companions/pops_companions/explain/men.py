@@ -7,7 +7,7 @@ from typing import Optional
 from pops_companions.chess.men import LETTERS, Colour, Kind, Square
 from pops_companions.chess.stipulation import Condition, Play
 from pops_companions.explain import wordings
-from pops_companions.explain.case import Case, Explanation, at, first_cause, listed, quoted
+from pops_companions.explain.case import Case, Explanation, at, first_cause, known, listed, quoted
 from pops_companions.explain.characters import decoded, shown
 from pops_companions.explain.other_men import man_by_name, squares_alone, two_letters
 from pops_companions.explain.sentences import sentence
@@ -20,8 +20,7 @@ _DIGITS_FIRST = re.compile(f"([{LETTERS}])((?:[1-8][a-h])+)", re.IGNORECASE)
 @first_cause
 def colour_missing(case: Case) -> Iterator[Optional[Explanation]]:
     """Explains men without a colour before them."""
-    opener = case.reading.opener
-    assert opener is not None
+    opener = known(case.reading.opener)
     yield from wordings.characters_in(case)
     # (`Bbe8` may have a letter too many)
     yield case.by_form("colour")
@@ -47,8 +46,7 @@ def square_taken(case: Case) -> Explanation:
     square, placed = _square_of(case)
     before = case.reading.men[square]
     what = f"{before.man.colour.value} {before.man.kind.word}"
-    kind, colour = kind_of(case.word.bytes), case.reading.colour
-    assert kind is not None and colour is not None
+    kind, colour = known(kind_of(case.word.bytes)), known(case.reading.colour)
     if before.word is case.word:
         text = sentence("square_twice_in_word", word=case.quoted, square=square.name)
     elif (before.man.kind, before.man.colour) == (kind, colour):
@@ -81,11 +79,8 @@ def pawn_on_outer_rank(case: Case) -> Explanation:
 def second_king(case: Case) -> Explanation:
     """Explains a second king of a colour."""
     square, placed = _square_of(case)
-    colour = case.reading.colour
-    assert colour is not None
-    king = king_of(case.reading, colour)
-    assert king is not None
-    before = case.reading.men[king]
+    colour = known(case.reading.colour)
+    before = case.reading.men[known(king_of(case.reading, colour))]
     about = {"colour": colour.name.title(), "before": quoted(before.word), "word": case.quoted}
     if before.word is case.word:
         text = sentence("two_kings_in_word", **about)
@@ -98,8 +93,7 @@ def second_king(case: Case) -> Explanation:
 
 def _square_of(case: Case) -> tuple[Square, Span]:
     """Returns the square of the fault and where in the word it stands."""
-    square, place = case.reading.square, case.reading.square_place
-    assert square is not None
+    square, place = known(case.reading.square), case.reading.square_place
     return square, case.word.part(place, place + 2)
 
 
@@ -139,8 +133,7 @@ def _letter_alone(case: Case) -> Optional[Explanation]:
 
 def _bad_square(case: Case) -> Explanation:
     rest = case.plain[1:]
-    good = re.match(r"(?:[a-h][1-8])*", rest, re.IGNORECASE)
-    assert good is not None
+    good = known(re.match(r"(?:[a-h][1-8])*", rest, re.IGNORECASE))
     bad = rest[good.end() :]
     place = 1 + good.end()
     part = bad[:2]
@@ -158,11 +151,10 @@ def _bad_square(case: Case) -> Explanation:
 
 def king_missing(case: Case) -> Explanation:
     """Explains that the side to be mated has no king."""
-    stipulation, given = case.reading.stipulation, case.reading.stipulation_word
-    assert stipulation is not None and given is not None
+    stipulation = known(case.reading.stipulation)
     side = stipulation.last_side.opponent
     name, other = side.name.title(), side.opponent.name.title()
-    head = sentence("no_king", given=quoted(given), name=name)
+    head = sentence("no_king", given=quoted(known(case.reading.stipulation_word)), name=name)
     for line in case.reading.text_lines:
         kings = [it for it in line.text.split() if is_man(it) and kind_of(it) is Kind.KING]
         if kings:
@@ -190,11 +182,9 @@ def king_missing(case: Case) -> Explanation:
 def waiting_side_in_check(case: Case) -> Explanation:
     """Explains that the side that waits is in check."""
     reading = case.reading
-    assert reading.stipulation is not None and reading.stipulation_word is not None
-    starter = reading.stipulation.starter
+    starter = known(reading.stipulation).starter
     waiting = starter.opponent
-    king = king_of(reading, waiting)
-    assert king is not None
+    king = known(king_of(reading, waiting))
     who: list[str] = []
     marks = [reading.men[king].span]
     for square in checkers(reading):
@@ -203,7 +193,7 @@ def waiting_side_in_check(case: Case) -> Explanation:
         marks.append(placed.span)
     text = sentence(
         "in_check_once" if len(who) == 1 else "in_check",
-        given=quoted(reading.stipulation_word),
+        given=quoted(known(reading.stipulation_word)),
         side=starter.name.title(),
         colour=waiting.value,
         king=king.name,

@@ -65,9 +65,6 @@ class _Line:
         self.span = Span(self.span.start + (by if is_before else 0), self.span.stop + by)
         self.mended += 1
 
-    def restored(self, text: bytes) -> bytes:
-        return text[: self.span.start] + self.was + text[self.span.stop :]
-
 
 class _Mender:
     """A text on the way: what is done is kept apart, so that no step costs a look at the whole."""
@@ -120,7 +117,8 @@ class _Mender:
             if edit is None:
                 self.made.left += 1
                 if line is not None and line.has(reading):
-                    near.text = line.restored(near.text)
+                    start, stop = line.span.start, line.span.stop
+                    near.text = near.text[:start] + line.was + near.text[stop:]
                     self.made.mended -= line.mended
                 return
             if not edit.text and edit.span.start < near.begin:

@@ -8,7 +8,7 @@ import re
 from collections.abc import Callable, Iterator, Sequence
 from typing import Optional
 
-from pops_companions.explain.case import Case, Explanation
+from pops_companions.explain.case import Case, Explanation, known
 from pops_companions.explain.characters import decoded, with_blanks
 from pops_companions.explain.explaining import ExplainedFault, explanation
 from pops_companions.explain.fault_texts import FAULT_TEXTS
@@ -214,8 +214,7 @@ def _leaving_out(text: bytes, reading: Reading) -> Optional[Edit]:
         return None
     words = reading.tokens[:-1]
     if not reading.first and not words:
-        before = Case(text, reading).span_before
-        assert before is not None
+        before = known(Case(text, reading).span_before)
         return Edit(Span(before.start, reading.word.start), b"")
     if reading.first and len(words) == 1 and named(reading.word.bytes, ["NextProblem"]) is not None:
         return Edit(Span(words[0].span.stop, reading.word.span.stop), b"")

@@ -6,7 +6,7 @@ from collections.abc import Iterator
 from typing import Optional
 
 from pops_companions.explain import wanted, wordings
-from pops_companions.explain.case import Case, Explanation, at, first_cause, listed, quoted
+from pops_companions.explain.case import Case, Explanation, at, first_cause, known, listed, quoted
 from pops_companions.explain.other_men import (
     foreign_letter,
     man_by_name,
@@ -134,10 +134,9 @@ def _is_before_a_man(case: Case) -> bool:
 
 def _white_to_play(case: Case) -> Optional[Explanation]:
     """Explains Popeye's short form of WhiteToPlay."""
-    found = unread("WhiteToPlay")
     if case.reading.section != "Option" or not named(case.word.bytes, ["White"]):
         return None
-    assert found is not None
+    found = known(unread("WhiteToPlay"))
     return case.tells("unread_short", what=found.what, name=found.name, instead=found.instead)
 
 
@@ -166,9 +165,8 @@ def _unknown(case: Case) -> Explanation:
     if section == "Pieces":
         return case.tells("unknown_among_men")
     if section == "Stipulation":
-        given = case.reading.stipulation_word
-        assert given is not None
-        return case.tells("unknown_after_stipulation", given=quoted(given))
+        given = quoted(known(case.reading.stipulation_word))
+        return case.tells("unknown_after_stipulation", given=given)
     if section == "Condition":
         return case.tells("unknown_condition", names=listed(CONDITIONS))
     return case.tells("unknown_option", names=listed(OPTIONS))

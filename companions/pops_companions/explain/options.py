@@ -6,7 +6,7 @@ from typing import Optional
 
 from pops_companions.chess.men import Colour, Square
 from pops_companions.explain import wordings
-from pops_companions.explain.case import Case, Explanation, at, first_cause, listed, quoted
+from pops_companions.explain.case import Case, Explanation, at, first_cause, known, listed, quoted
 from pops_companions.explain.sentences import sentence
 from pops_companions.explain.vocabulary import unread
 from pops_companions.input.reading import (
@@ -29,9 +29,8 @@ _SIDES = re.compile(r"white|black|w|b|[kq]{1,4}|0-0(-0)?|o-o(-o)?|-|both|yes|no"
 
 def second_condition(case: Case) -> Explanation:
     """Explains a second condition."""
-    given = case.reading.condition_word
-    assert given is not None and case.reading.condition is not None
-    is_same = named(case.word.bytes, [case.reading.condition.value]) is not None
+    given = known(case.reading.condition_word)
+    is_same = named(case.word.bytes, [known(case.reading.condition).value]) is not None
     which = "condition_twice" if is_same else "second_condition"
     return case.tells(which, given.span, given=quoted(given))
 
@@ -39,8 +38,7 @@ def second_condition(case: Case) -> Explanation:
 @first_cause
 def bad_limit(case: Case) -> Iterator[Optional[Explanation]]:
     """Explains a wrong or missing number of MaxSolutions."""
-    option = case.reading.option
-    assert option is not None
+    option = known(case.reading.option)
     yield wordings.invisible(case)
     yield wordings.parted(case)
     yield _missing(case, option, "number", "MaxSolutions 5")
@@ -72,8 +70,7 @@ def _missing(case: Case, option: Word, what: str, example: str) -> Optional[Expl
 @first_cause
 def square_missing(case: Case) -> Iterator[Optional[Explanation]]:
     """Explains missing squares of EnPassant and NoCastling."""
-    option = case.reading.option
-    assert option is not None
+    option = known(case.reading.option)
     one = case.reading.awaited is Awaited.SQUARE
     name = "EnPassant" if one else "NoCastling"
     wanted = sentence("wanted_crossed") if one else sentence("wanted_castling")
@@ -94,13 +91,11 @@ def square_missing(case: Case) -> Iterator[Optional[Explanation]]:
 def en_passant_impossible(case: Case) -> Explanation:
     """Explains a square of EnPassant that no pawn can have crossed."""
     reading = case.reading
-    stipulation, given, crossed = reading.stipulation, reading.crossed_word, reading.crossed
-    assert stipulation is not None and given is not None and crossed is not None
-    assert reading.stipulation_word is not None
-    starter = stipulation.starter
+    given, crossed = known(reading.crossed_word), known(reading.crossed)
+    starter = known(reading.stipulation).starter
     wants = en_passant_wants(reading.position, starter, crossed)
     head = sentence(
-        "moves_first", given=quoted(reading.stipulation_word), side=starter.name.title()
+        "moves_first", given=quoted(known(reading.stipulation_word)), side=starter.name.title()
     )
     about = {"head": head, "pawn": f"{starter.opponent.value} pawn"}
     if not wants.right_rank:
@@ -127,7 +122,6 @@ def _with_rank(text: str, wants: EnPassantWants, starter: Colour, crossed: Squar
 
 def none_castles_there(case: Case) -> Explanation:
     """Explains a square of NoCastling where no king or rook castles."""
-    square, place = case.reading.square, case.reading.square_place
-    assert square is not None
+    square, place = known(case.reading.square), case.reading.square_place
     text = sentence("no_castling_square", squares=listed(CASTLING_SQUARES), square=square.name)
     return at(text, case.word.part(place, place + 2))

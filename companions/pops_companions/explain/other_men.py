@@ -4,7 +4,7 @@ import re
 from typing import Optional
 
 from pops_companions.chess.men import LETTERS, Kind
-from pops_companions.explain.case import Case, Explanation, listed
+from pops_companions.explain.case import Case, Explanation, known, listed
 from pops_companions.explain.characters import decoded
 from pops_companions.explain.sentences import DATA, sentence
 from pops_companions.explain.vocabulary import Alphabet, alphabets_of, alphabets_with
@@ -33,10 +33,10 @@ def foreign_letter(case: Case) -> Optional[Explanation]:
     men = men_words(case)
     fitting = [it for it in alphabets_of("".join(letters_of(men))) if it in possible]
     possible = fitting or possible
-    kinds = {_kind(alphabet, letter) for alphabet in possible}
+    kinds = {known(alphabet.kind(letter)) for alphabet in possible}
     if len(kinds) > 1:
         ways = [sentence(
-            "kind_in", kind=_kind(it, letter).word, languages=listed(it.languages)
+            "kind_in", kind=known(it.kind(letter)).word, languages=listed(it.languages)
         ) for it in possible]
         return case.tells("letter_of_several", text=text, ways=listed(ways, 'or'))
     (kind,) = kinds
@@ -94,12 +94,6 @@ def two_letters(case: Case) -> Optional[Explanation]:
     return case.tells(
         "two_letters", kinds=", ".join(kinds[:-1]), last=kinds[-1], letters=" ".join(LETTERS)
     )
-
-
-def _kind(alphabet: Alphabet, letter: str) -> Kind:
-    kind = alphabet.kind(letter)
-    assert kind is not None
-    return kind
 
 
 def men_words(case: Case) -> list[Word]:

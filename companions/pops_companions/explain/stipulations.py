@@ -6,7 +6,7 @@ from typing import Any, Optional
 
 from pops_companions.chess.stipulation import MOST_MOVES
 from pops_companions.explain import wanted, wordings
-from pops_companions.explain.case import Case, Explanation, first_cause, quoted
+from pops_companions.explain.case import Case, Explanation, first_cause, known, quoted
 from pops_companions.explain.characters import decoded
 from pops_companions.explain.sentences import DATA, sentence
 from pops_companions.input.reading import COLOURS, CONDITIONS, OPTIONS, is_man, is_number
@@ -63,7 +63,9 @@ def bad_stipulation(case: Case) -> Iterator[Optional[Explanation]]:
     )
     yield wordings.signs(case)
     yield _number_in_words(case)
-    yield _in_words(case)
+    if is_number(case.word.bytes):
+        yield case.tells("only_number")
+    yield _said_in_words(case, case.rest_of_line(_MOST_WORDS))
     yield wordings.in_another_language(case)
     # (as a comment `#three` would leave the problem without a stipulation)
     if not case.plain.startswith("#"):
@@ -163,12 +165,6 @@ def _number_in_words(case: Case) -> Optional[Explanation]:
     return case.tells("in_words", whole=whole) if case.fits(whole) else None
 
 
-def _in_words(case: Case) -> Optional[Explanation]:
-    if is_number(case.word.bytes):
-        return case.tells("only_number")
-    return _said_in_words(case, case.rest_of_line(_MOST_WORDS))
-
-
 def _white_mates(case: Case) -> Optional[Explanation]:
     """Explains `White to mate in 2`."""
     words = case.rest_of_line(_MOST_WORDS + _MOST_WORDS_FIRST)
@@ -216,8 +212,7 @@ def _has_two_pieces(case: Case) -> bool:
 @first_cause
 def second_stipulation(case: Case) -> Iterator[Optional[Explanation]]:
     """Explains a second stipulation."""
-    given = case.reading.stipulation_word
-    assert given is not None
+    given = known(case.reading.stipulation_word)
     yield wordings.invisible(case)
     if not looks_like_stipulation(case.plain):
         yield wordings.comment(case)

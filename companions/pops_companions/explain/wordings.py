@@ -73,7 +73,7 @@ def look_alike(case: Case) -> Optional[Explanation]:
     if odd is None:
         return None
     mended = characters.plain(case.plain)
-    if characters.is_figurine(odd):
+    if odd in characters.FIGURINES:
         return case.tells("figurine", letter=odd, mended=mended)
     if not case.fits(mended):
         return None

@@ -8,9 +8,10 @@ import re
 from collections.abc import Iterable, Iterator, Mapping, Sequence
 from typing import Optional
 
+from pops_companions.chess.men import Colour
 from pops_companions.export.problems import Exported
-from pops_companions.chess.men import LETTERS, Square
 from pops_companions.export.yaml_fields import Fields, Source, Value, fields_of, put, source_of
+from pops_companions.input.writing import men_in
 from pops_companions.report.items import SoundItem
 from pops_companions.show.authors import persons
 
@@ -20,7 +21,6 @@ _LISTS = ("awards", "judges", "keywords", "reprints")
 _LISTS_OF_TEXTS = (*_LISTS, "judge")
 # What YAML allows only as a code, or takes for the end of a line. JSON leaves it as it is.
 _UNPRINTABLE = re.compile("[\x7f-\x9f\u2028\u2029\ufeff\ufffe\uffff]")
-_MAN = re.compile(f"([{LETTERS}])((?:[a-h][1-8])+)")
 _SIGNS = re.compile("(.*?)([#+=]?)([!?]?)")
 # What Popeye prints after a first move in place of the line that a text of tries has below it.
 _MENACES = {"threat": " threat:", "zugzwang": " zugzwang.", "check": ""}
@@ -52,8 +52,11 @@ def _document(one: Exported, items: Mapping[int, SoundItem]) -> Iterator[str]:
     elif origin:
         yield f"source: {_quoted(origin)}"
     yield "algebraic:"
-    for colour, men in _men(problem.pieces).items():
-        yield f"  {colour}: [{', '.join(men)}]"
+    men: dict[Colour, list[str]] = {}
+    for square, man in men_in(problem.pieces):
+        men.setdefault(man.colour, []).append(man.kind.value + square.name)
+    for colour, words in men.items():
+        yield f"  {colour.value}: [{', '.join(words)}]"
     yield f"stipulation: {_quoted(problem.stipulation)}"
     if problem.condition:
         yield f"conditions: [{problem.condition}]"
@@ -136,20 +139,6 @@ def _list(key: str, texts: Iterable[str]) -> Iterator[str]:
     yield f"{key}:"
     for text in texts:
         yield f"  - {_quoted(text)}"
-
-
-def _men(pieces: str) -> "dict[str, list[str]]":
-    """Returns the men of each colour, each with one square."""
-    men: "dict[str, list[str]]" = {}
-    colour = ""
-    for word in pieces.split():
-        found = _MAN.fullmatch(word)
-        if found is None:
-            colour = word.lower()
-            men[colour] = []
-        else:
-            men[colour] += [found[1] + square.name for square in Square.of_names(found[2])]
-    return men
 
 
 def _remarks(fields: Fields) -> Iterator[str]:

@@ -6,11 +6,11 @@ from collections.abc import Iterable, Iterator, Sequence
 from dataclasses import dataclass, replace
 from typing import Optional
 
-from pops_companions.chess.men import LETTERS, Colour, Kind, Man, Square
 from pops_companions.export.problems import Problem, read_problems
 from pops_companions.find.boards import board_of
 from pops_companions.find.dates import date_of
 from pops_companions.import_.words import Unreadable
+from pops_companions.input.writing import men_in
 from pops_companions.report.items import Item, Node, PhaseKind, SoundItem
 from pops_companions.report.moves import Mark
 from pops_companions.report.reader import ReportError, read_report
@@ -19,7 +19,6 @@ from pops_companions.review.naming import joined_name
 from pops_companions.show.titles import shown, text_of
 
 _REPORT = re.compile(rb"problem [1-9][0-9]*\r?\n")
-_MAN = re.compile(f"([{LETTERS}{LETTERS.lower()}])((?:[a-h][1-8])+)")
 _FILES = str.maketrans("abcdefgh", "hgfedcba")
 _KEYWORD = re.compile(r"keywords?: (.+)", re.IGNORECASE)
 _SQUARE = re.compile("[a-h](?=[1-8])")
@@ -96,19 +95,6 @@ def _of_problem(source: str, problem: Problem) -> Entry:
         None,
         "; ".join(found[1] for found in map(_KEYWORD.fullmatch, problem.remarks) if found),
     )
-
-
-def men_in(pieces: str) -> Iterator[tuple[Square, Man]]:
-    """Yields the men of a text such as `White Kg6 Ra1b1 Black Kg8`. ValueError for other words."""
-    colour: Optional[Colour] = None
-    for word in pieces.split():
-        found = _MAN.fullmatch(word)
-        if found is None or colour is None:
-            colour = Colour(word.lower())
-            continue
-        man = Man(colour, Kind(found[1].upper()))
-        for square in Square.of_names(found[2]):
-            yield square, man
 
 
 def _of_report(source: str, data: bytes, encoding: str) -> tuple[list[Entry], list[str]]:

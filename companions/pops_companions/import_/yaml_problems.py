@@ -14,6 +14,8 @@ from pops_companions.import_.words import Message, TextLine, Unreadable, Words
 from pops_companions.import_.yaml_text import Node, Scalar, YamlError, documents, line_of
 
 _COLOURS = ("white", "black", "neutral")
+# The keys of one line, with what their texts are.
+_ORIGIN = {"source": "name", "date": "date"}
 # The twin that stands in place of the position itself.
 _FIRST_TWIN = "a"
 # The longest names of twins, and of values that become Remarks, each of which repeats its name.
@@ -60,7 +62,7 @@ def _problems_in(node: Node) -> list[Node]:
 
 def _read_key(key: str, value: Node, draft: Draft) -> None:
     # (source and date are read together, after all keys)
-    if key.lower() in ("source", "date"):
+    if key.lower() in _ORIGIN:
         return
     readers = {
         "title": _read_names,
@@ -123,11 +125,8 @@ def _read_origin(keys: dict[str, Node], draft: Draft) -> None:
     """Source and date, which are one line."""
     parts: list[tuple[str, str]] = []
     for key, value in keys.items():
-        name = key.lower()
-        if name == "source":
-            parts.extend(_parts_of_origin("name", value))
-        elif name == "date":
-            parts.extend(_parts_of_origin("date", value))
+        if key.lower() in _ORIGIN:
+            parts.extend(_parts_of_origin(_ORIGIN[key.lower()], value))
     line, rest = origin_of(parts)
     if line:
         draft.texts.append(TextLine("Origin", line))

@@ -1,12 +1,15 @@
 """Problems as input of pops."""
 
-from collections.abc import Iterable, Mapping, Sequence
+import re
+from collections.abc import Iterable, Iterator, Mapping, Sequence
 from dataclasses import dataclass, replace
 from typing import Optional, Union
 
 from pops_companions.chess.fen import Position, read_position
-from pops_companions.chess.men import Colour, Kind, Man, Square
+from pops_companions.chess.men import LETTERS, Colour, Kind, Man, Square
 from pops_companions.chess.stipulation import Condition, Stipulation
+
+_MAN = re.compile(f"([{LETTERS}{LETTERS.lower()}])((?:[a-h][1-8])+)")
 
 
 def text_of_problems(problems: Iterable[list[str]]) -> str:
@@ -32,6 +35,19 @@ def pieces_line(men: Mapping[Square, Man]) -> str:
         for man in own:
             words.append(man.kind.value + "".join(square.name for square in squares[man]))
     return " ".join(words)
+
+
+def men_in(pieces: str) -> Iterator[tuple[Square, Man]]:
+    """Yields the men of a text such as `White Kg6 Ra1b1 Black Kg8`. ValueError for other words."""
+    colour: Optional[Colour] = None
+    for word in pieces.split():
+        found = _MAN.fullmatch(word)
+        if found is None or colour is None:
+            colour = Colour(word.lower())
+            continue
+        man = Man(colour, Kind(found[1].upper()))
+        for square in Square.of_names(found[2]):
+            yield square, man
 
 
 def posing_lines(

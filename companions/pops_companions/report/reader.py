@@ -108,14 +108,10 @@ class ReportReader:
         Take all events before the next call. ReportError where the text departs from the grammar,
         after the events before.
         """
-        for line in self._whole_lines(data):
-            yield from self.take(line)
-
-    def _whole_lines(self, data: bytes) -> list[bytes]:
-        """Returns the lines that end with these bytes."""
         *whole, self._begun = (self._begun + data).split(b"\n")
         self._refuse_long_line(len(whole))
-        return whole
+        for line in whole:
+            yield from self.take(line)
 
     def _refuse_long_line(self, before: int) -> None:
         """Refuses a line that has begun after this many others."""

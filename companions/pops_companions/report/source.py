@@ -53,14 +53,14 @@ def opened_report(companion: str, file: Optional[str], encoding: str) -> Iterato
     and authors that aren't in the encoding are reported on standard error after the last item.
     """
     with command.opened(file) as source:
-        yield _items(companion, file or "standard input", source, encoding, read_report)
+        yield items_of_report(companion, file or "standard input", source, encoding)
 
 
 def items_of_report(
     companion: str, name: str, source: BinaryIO, encoding: str
 ) -> Iterator[Item]:
     """Yields the items of a report that is open, and refuses it as `opened_report` does."""
-    return _items(companion, name, source, encoding, read_report)
+    return NamedText(companion, name, encoding).whole(source, read_report)
 
 
 @contextmanager
@@ -77,13 +77,14 @@ def opened_unfinished_report(
     unfinished = unfinished_beside(file, unfinished)
     with command.opened(file) as source:
         name = file or "standard input"
-        may_be_empty = unfinished is not None
-        items = _items(companion, name, source, encoding, read_unfinished_report, may_be_empty)
+        text = NamedText(companion, name, encoding)
+        items = text.whole(source, read_unfinished_report, unfinished is not None)
         if unfinished is None:
             yield items
             return
         with command.opened(unfinished) as rest:
-            more = list(_items(companion, unfinished, rest, encoding, read_unfinished_report))
+            other = NamedText(companion, unfinished, encoding)
+            more = list(other.whole(rest, read_unfinished_report))
         yield iter(_merged(list(items), more, name, named))
 
 
@@ -103,8 +104,8 @@ def opened_tries(
     if allowed is Allowed.FINISHED:
         read = read_tries
     with command.opened(file) as source:
-        name = file or "standard input"
-        yield _items(companion, name, source, encoding, read, text=Text.TRIES)
+        text = NamedText(companion, file or "standard input", encoding, Text.TRIES)
+        yield text.whole(source, read)
 
 
 @contextmanager
@@ -147,19 +148,6 @@ def is_input(line: bytes) -> bool:
     return bool(words) and is_short_for(words[0], "BeginProblem")
 
 
-def _items(
-    companion: str,
-    name: str,
-    source: BinaryIO,
-    encoding: str,
-    read: Callable[[Iterable[bytes]], Iterator[Read]],
-    may_be_empty: bool = False,
-    text: Text = Text.REPORT,
-) -> Iterator[Read]:
-    named = NamedText(companion, name, encoding, text)
-    return named.all_of(named.items(pieces_of(source), read), may_be_empty)
-
-
 class NamedText:
     """A text as messages name it, read as a whole or from some of its pieces."""
 
@@ -195,13 +183,20 @@ class NamedText:
             message = _refusal(self._name, first.split(b"\n", 1)[0], error, self._text)
             raise CommandError(Status.DEVICE, message) from None
 
-    def all_of(self, some: Iterator[Any], may_be_empty: bool = False) -> Iterator[Any]:
-        """Yields all that is read of the text, and ends it."""
-        yield from some
-        self.end(may_be_empty)
+    def whole(
+        self,
+        source: BinaryIO,
+        read: Callable[[Iterable[bytes]], Iterator[Read]],
+        may_be_empty: bool = False,
+    ) -> Iterator[Read]:
+        """Yields the items of all of the text."""
+        return self.all_of(self.items(pieces_of(source), read), may_be_empty)
 
-    def end(self, may_be_empty: bool = False) -> None:
-        """Refuses a text without items, and says whose names aren't in the encoding."""
+    def all_of(self, some: Iterator[Any], may_be_empty: bool = False) -> Iterator[Any]:
+        """Yields all that is read of the text. Refuses one without items, and says whose names aren't in
+        the encoding.
+        """
+        yield from some
         if self._is_empty and not may_be_empty:
             raise CommandError(Status.DEVICE, f"{self._name} is empty: no {self._text.value}")
         _warn_of_names(self._companion, self._name, self.undecodable, self._encoding)

@@ -26,7 +26,8 @@ def page(
         target = f"found-{place}" if any(it.findings for it in one.judgements) else ""
         rows.append(row(one, target, encoding))
         if target:
-            articles.append(article(one, target, encoding, _evidence(one, most)))
+            evidence = with_headings(one, lambda it: (finding_text(of, most) for of in it.findings))
+            articles.append(article(one, target, encoding, evidence))
     head = "<tr><th>No.</th><th>Problem</th><th>Verdict</th></tr>\n"
     parts = [f"<p>{tally.text}</p>\n<table>\n{head}", *rows, "</table>\n", *articles]
     return framed(html.escape(heading), [STYLE], parts)
@@ -73,10 +74,6 @@ def with_headings(
             text = html.escape(printable(heading))
             yield f'<h3>{text}: <span class="{verdict}">{verdict}</span></h3>\n'
         yield from shown(judgement)
-
-
-def _evidence(one: JudgedGroup, most: Optional[int]) -> Iterator[str]:
-    return with_headings(one, lambda it: (finding_text(finding, most) for finding in it.findings))
 
 
 def finding_text(finding: Finding, most: Optional[int]) -> str:

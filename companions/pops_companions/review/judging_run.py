@@ -80,8 +80,8 @@ class _Wanted(NamedTuple):
     text: bytes
 
     def has(self, item: TriesItem) -> bool:
-        """Returns whether an item asks for the same, on the same board if it shows one, and its men
-        stand where its moves begin.
+        """Returns whether an item asks for the same, on the same board if it shows one, and the men
+        can make its moves.
         """
         if item.stipulation != self.problem.stipulation or item.board not in (None, self.board):
             return False

@@ -50,16 +50,15 @@ def posed_problems(problems: Iterable[GivenProblem]) -> Iterator[list[str]]:
 def _sections(problem: GivenProblem, stipulation: Stipulation) -> Iterator[str]:
     """Yields its sections with another stipulation, each on a line; those left empty are left out."""
     for section in problem.sections:
-        kept = (it for it in section.words if not _is_left_out(it))
-        words = [word.decode("utf-8", "surrogateescape") for word in kept]
+        words = [
+            word.decode("utf-8", "surrogateescape")
+            for word in section.words
+            if not any(is_short_for(word, option) for option in _OPTIONS_LEFT_OUT)
+        ]
         if section.command == "Stipulation":
             words[1:] = [stipulation.text for _ in words[1:]]
         if len(words) > 1:
             yield " ".join(words)
-
-
-def _is_left_out(word: bytes) -> bool:
-    return any(is_short_for(word, option) for option in _OPTIONS_LEFT_OUT)
 
 
 @dataclass(frozen=True)
@@ -87,11 +86,11 @@ class ShortAnswers:
                     f"problem {item.number} has no title as --pose gives it,"
                     f" such as '{item.stipulation.text} of problem 1'"
                 )
-            lines = _first_lines(item)
-            if lines is not None:
+            play = item.phase(PhaseKind.PLAY)
+            if play is not None:
                 key = (int(whose[2]), item.stipulation.text)
                 complete = item.unfinished is None
-                self._answers[key] = _Answer(item.board, item.condition, lines, complete)
+                self._answers[key] = _Answer(item.board, item.condition, play.texts, complete)
 
     def of(self, item: SoundItem) -> Optional[tuple[str, ...]]:
         """Returns the short solutions of a problem, as far as they are known.
@@ -114,9 +113,3 @@ class ShortAnswers:
             complete = complete and answer.complete
             lines.extend(answer.lines)
         return tuple(lines) if lines or complete else None
-
-
-def _first_lines(item: SoundItem) -> Optional[tuple[str, ...]]:
-    """Returns the lines or keys of the play; None where it wasn't solved."""
-    play = item.phase(PhaseKind.PLAY)
-    return None if play is None else play.texts

@@ -12,7 +12,7 @@ from pops_companions.review.judgement_page import STYLE, article, finding_text, 
 from pops_companions.review.judgement_text import Tally
 from pops_companions.review.judging import Judgement
 from pops_companions.sheet.languages import LANGUAGES, marked_as
-from pops_companions.sheet.solution import Solution, shortened
+from pops_companions.sheet.solution import Solution, lines_of, shortened
 from pops_companions.show.page import framed
 from pops_companions.show.titles import printable, shown
 from pops_companions.stored import stored_text
@@ -118,13 +118,7 @@ def solutions_of(judgement: Judgement, evidence: Evidence) -> list[str]:
         item, left_out = shortened(item)
     solution = Solution(board.men, item.condition, _ENGLISH)
     blocks = solution.blocks(item, evidence.tries.get(number))
-    lines: list[str] = []
-    for block in blocks:
-        lines += [block.heading] * (len(blocks) > 1)
-        indent = "  " * (len(blocks) > 1)
-        for line in block.lines:
-            lines.append(indent + "  " * line.level + line.text.translate(_MARKS))
-    return [*lines, *([f".. and {left_out} more (--all shows them)"] if left_out else [])]
+    return [*lines_of(blocks, _MARKS), *([f".. and {left_out} more (--all shows them)"] if left_out else [])]
 
 
 def _folded(summary: str, lines: Sequence[str]) -> str:

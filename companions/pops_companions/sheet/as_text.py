@@ -4,6 +4,7 @@ from collections.abc import Iterable, Iterator
 
 from pops_companions.sheet.entries import Entry, Part, index_of
 from pops_companions.sheet.languages import Language, marked_as
+from pops_companions.sheet.solution import lines_of
 from pops_companions.show.authors import joined
 from pops_companions.show.diagram import position_in_words
 
@@ -40,10 +41,6 @@ def _part(part: Part, language: Language) -> Iterator[str]:
         yield _INDENT + part.heading.translate(marks)
     if part.fault:
         yield _INDENT + part.fault
-    for block in part.blocks:
-        if len(part.blocks) > 1:
-            yield f"{_INDENT}{block.heading}"
-        for line in block.lines:
-            yield _INDENT * (1 + line.level + (len(part.blocks) > 1)) + line.text.translate(marks)
+    yield from (_INDENT + line for line in lines_of(part.blocks, marks))
     if part.note:
         yield _INDENT + part.note

@@ -1,14 +1,15 @@
 """Men before and after a printed move, and which other men could have made it."""
 
-from collections.abc import Iterable, Iterator
+from collections.abc import Iterator, Sequence
 from dataclasses import replace
 from typing import Optional, Union
 
 from pops_companions.chess.attacks import Men, attackers
 from pops_companions.chess.men import Kind, Man, Square
 from pops_companions.chess.stipulation import Condition
-from pops_companions.report.items import HelpLine, Node, Phase, SoundItem
+from pops_companions.report.items import Board, HelpLine, Node, SoundItem
 from pops_companions.report.moves import Castling, PlayedMove
+from pops_companions.report.steps import board_after, board_of
 from pops_companions.report.tries import TriesItem
 
 # Where the rook of a castling comes from, and where it goes.
@@ -35,47 +36,27 @@ def _moved(men: Men, move: PlayedMove, origin: Square) -> Men:
 
 
 def are_possible(men: Men, item: Union[SoundItem, TriesItem]) -> bool:
-    """Returns whether the man of each move that an item shows stands where the move begins."""
+    """Returns whether the men can make all moves that an item shows."""
+    board = board_of(Board.of_men(men).letters)
     if isinstance(item, SoundItem):
-        return all(_is_possible(men, phase) for phase in item.phases or ())
-    nodes = (
+        return all(_are_playable(board, phase.solutions) for phase in item.phases or ())
+    nodes = [
         Node(it.text, it.move, [*it.threats, *it.defences, *it.refutations])
         for it in (*item.keys, *item.tries)
-    )
-    return can_begin(men, nodes) and (item.set_play is None or _is_possible(men, item.set_play))
+    ]
+    set_play = () if item.set_play is None else item.set_play.solutions
+    return _are_playable(board, nodes) and _are_playable(board, set_play)
 
 
-def _is_possible(men: Men, phase: Phase) -> bool:
-    return can_begin(men, map(_node_of, phase.solutions))
-
-
-def _node_of(solution: Union[HelpLine, Node]) -> Node:
-    """Returns a solution as its first move with what follows below it."""
-    if isinstance(solution, Node):
-        return solution
-    *before, last = solution.moves
-    node = Node(solution.text, last, [])
-    for move in reversed(before):
-        node = Node(solution.text, move, [node])
-    return node
-
-
-def can_begin(men: Men, nodes: Iterable[Node]) -> bool:
-    """Returns whether the man of each move, also of those below it, stands where the move begins."""
-    return all(
-        _stands(men, node.move)
-        and (not node.below or can_begin(after(men, node.move), node.below))
-        for node in nodes
-    )
-
-
-def _stands(men: Men, move: PlayedMove) -> bool:
-    """Returns whether the man of a move, for a castling also the rook, is where it begins."""
-    if men.get(move.origin) != Man(move.side, move.kind):
-        return False
-    return move.castling is None or (
-        Square(_FILES_OF_ROOK[move.castling][0], move.origin.rank) in men
-    )
+def _are_playable(board: int, solutions: Sequence[Union[HelpLine, Node]]) -> bool:
+    """Returns whether the men of a board can make the moves of solutions, also those below them."""
+    for solution in solutions:
+        moves = solution.moves if isinstance(solution, HelpLine) else [solution.move]
+        moved = board_after(board, moves)
+        below = () if isinstance(solution, HelpLine) else solution.below
+        if moved is None or not _are_playable(moved, below):
+            return False
+    return True
 
 
 def rivals(men: Men, move: PlayedMove, condition: Optional[Condition]) -> list[Square]:

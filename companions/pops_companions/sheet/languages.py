@@ -76,9 +76,6 @@ class Language(NamedTuple):
         month = self.months.split()[MONTHS.index(date[2])]
         return f"{source[: date.start()]}{day}{month} {date[3]}"
 
-    def man(self, kind: Kind) -> str:
-        return self.letters[list(Kind).index(kind)]
-
     def fault(self, fault: Fault) -> str:
         """Returns the text of a fault; what the report says of one that pops doesn't have."""
         kind = next((it for it in FaultKind if it.value == fault.number), None)
@@ -99,6 +96,6 @@ LANGUAGES: Mapping[str, Language] = {
 def marked_as(language: Language, men: Mapping[Kind, str]) -> dict[int, str]:
     """Returns what stands for each mark, for `str.translate`: these men, or the language's letters.
     """
-    shown = {MARKS[kind]: men.get(kind, language.man(kind)) for kind in Kind}
+    shown = {MARKS[kind]: men.get(kind, letter) for kind, letter in zip(Kind, language.letters)}
     shown.update(zip(COLOUR_MARKS.values(), language.colours))
     return {ord(mark): text for mark, text in shown.items()}

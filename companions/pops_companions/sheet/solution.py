@@ -40,6 +40,17 @@ class Block:
     lines: tuple[Line, ...]
 
 
+def lines_of(blocks: Sequence[Block], marks: dict[int, str]) -> list[str]:
+    """Returns the lines of blocks, each block under its heading if there are several."""
+    lines: list[str] = []
+    for block in blocks:
+        lines += [block.heading] * (len(blocks) > 1)
+        for line in block.lines:
+            indent = "  " * (line.level + (len(blocks) > 1))
+            lines.append(indent + line.text.translate(marks))
+    return lines
+
+
 class TriesShown(Enum):
     """Which tries are shown; a try with variations has a threat, or a defence that doesn't refute."""
 
