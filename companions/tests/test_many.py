@@ -551,7 +551,7 @@ class Command(unittest.TestCase):
         progress.begin(100, 500)
         self.assertEqual(progress.line(1), "pops-many: 100 of 500 problems, 0:01 so far")
         for _ in range(50):
-            progress.one_more()
+            progress.more()
         self.assertEqual(progress.line(10), "pops-many: 150 of 500 problems, about 1:10 left")
         self.assertEqual(duration(5), "0:05")
         self.assertEqual(duration(3723), "1:02:03")

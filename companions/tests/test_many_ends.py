@@ -255,7 +255,7 @@ class LastLine(unittest.TestCase):
             progress = Progress("pops-many")
             progress.is_shown = True
             progress.begin(0, 1)
-            progress.one_more()
+            progress.more()
             clock.now += 1
             progress.wait_on()
         self.assertEqual(shown.getvalue(), "\rpops-many: 1 of 1 problems")

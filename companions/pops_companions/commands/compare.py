@@ -69,7 +69,7 @@ class Comparison:
         for places in pairs:
             self._pairs += 1
             pair = self._pair(places)
-            progress.one_more()
+            progress.more()
             if pair is None:
                 continue
             found = differences_of(pair, self._encoding)

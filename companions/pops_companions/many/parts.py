@@ -18,6 +18,8 @@ MOST_PARTS = 100_000
 _LONGEST_LINE = 1 << 16
 
 _SOUND = lines.SOUND + b"\n\n"
+# A total between the line ends: other lines aren't looked at one by one.
+_TOTAL_LINE = re.compile(rb"\n%s(?=\n)" % lines.TOTAL.pattern)
 _LIST = re.compile(
     rb"1: (?:set (?:(?P<set>[0-9]{1,18})|(?P<barred>not possible)), )?play (?P<play>[0-9]{1,18})\n"
 )
@@ -121,9 +123,10 @@ def up_to_totals(pieces: Iterable[bytes]) -> Iterator[tuple[bytes, bool]]:
     for piece in pieces:
         whole, end, rest = (rest + piece).rpartition(b"\n")
         whole, begin = whole + end, 0
-        for stop in _ends_of_totals(whole):
-            yield whole[begin:stop], True
-            begin = stop
+        for found in _TOTAL_LINE.finditer(b"\n" + whole):
+            # (its line end has the place before this one)
+            yield whole[begin : found.end()], True
+            begin = found.end()
         if begin < len(whole):
             yield whole[begin:], False
         if len(rest) > _LONGEST_LINE:
@@ -131,21 +134,6 @@ def up_to_totals(pieces: Iterable[bytes]) -> Iterator[tuple[bytes, bool]]:
             rest = b""
     if rest:
         yield rest, False
-
-
-def _ends_of_totals(whole: bytes) -> Iterator[int]:
-    """Yields where the totals among whole lines end; other lines aren't looked at one by one."""
-    begin = 0
-    while True:
-        if not whole.startswith(lines.SOLUTIONS, begin):
-            begin = whole.find(b"\n" + lines.SOLUTIONS, begin) + 1
-            if begin == 0:
-                return
-        stop = whole.index(b"\n", begin)
-        total = lines.TOTAL.fullmatch(whole, begin, stop)
-        begin = stop + 1
-        if total is not None:
-            yield begin
 
 
 def lines_without_total(report: bytes) -> bytes:

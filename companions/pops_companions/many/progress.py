@@ -73,11 +73,7 @@ class Progress:
         self._total = total
         self._began = self._next = time.monotonic()
 
-    def one_more(self) -> None:
-        """Counts another problem as done."""
-        self.more(1)
-
-    def more(self, number: int) -> None:
+    def more(self, number: int = 1) -> None:
         """Counts this many problems more as done."""
         self._done += number
         is_last = self._done == self._total

@@ -71,7 +71,7 @@ class Solving:
                 with progress.beating():
                     for future in as_completed(number_of):
                         texts[number_of[future]] = future.result()
-                        progress.one_more()
+                        progress.more()
             except RunError as error:
                 program.stop()
                 raise CommandError(Status.DEVICE, str(error)) from None
