@@ -30,19 +30,33 @@ import subprocess, sys
 from pops_companions.many.child_process import ChildProcess
 ChildProcess(sys.argv[1:], subprocess.PIPE, subprocess.PIPE).outcome(b"")
 """
+# Likewise, but this one is killed as soon as the program runs.
+_DIES = """
+import os, pathlib, signal, subprocess, sys, time
+from pops_companions.many import child_process
+def die(*_):
+    while not pathlib.Path(sys.argv[2]).is_file():
+        time.sleep(0.05)
+    os.kill(os.getpid(), signal.SIGKILL)
+child_process.killed_with_holder = die
+child_process.ChildProcess(sys.argv[1:2], subprocess.PIPE, subprocess.PIPE)
+"""
 # A process group of its own, that `timeout` makes.
 _GROUP = "timeout 1800 sleep 1800"
 
 
 class Linked(support.InRoom):
     @unittest.skipUnless(shutil.which("cc"), "cc isn't installed")
+    @unittest.skipUnless(shutil.which("cc"), "cc isn't installed")
     def test_a_program_that_may_start_another(self) -> None:
-        for name in ("abs", "fork", "_Fork", "forkpty", "daemon", "wordexp", "posix_spawn"):
+        starting = ("fork", "_Fork", "forkpty", "daemon", "wordexp", "posix_spawn", "dlvsym", "_IO_proc_open")
+        # (the last may be of a program that calls the system without the library)
+        for name in ("close", *starting, "pause"):
             words = ["cc", "-fno-builtin", "-x", "c", "-", "-o", str(self.room / name)]
             made = support.run(words, f"int {name}(void); int main(void) {{ return {name}(); }}".encode())
             # (an older library lacks some)
             if made.status == 0:
-                self.assertEqual(starts_none(str(self.room / name)), name == "abs", name)
+                self.assertEqual(starts_none(str(self.room / name)), name == "close", name)
 
 
 class Ended(support.InRoom):
@@ -138,6 +152,17 @@ class Ended(support.InRoom):
         process = self.noted(noted)
         run.kill()
         run.communicate()
+        wait_for(lambda: not sessions.members(process))
+
+    def test_a_program_that_begins_as_the_companion_is_killed(self) -> None:
+        noted = self.room / "noted"
+        closed = " ".join(f"{it}>&-" for it in range(3, 10))
+        text = f"env -i sh -c 'exec sleep 1800 {closed}' & echo $$ > '{noted}'; wait"
+        program = self.write_program("program", f"#!/bin/sh\n{text}\n")
+        words = [sys.executable, "-c", _DIES, program, str(noted)]
+        self.assertEqual(subprocess.run(words, cwd=support.COMPANIONS).returncode, -signal.SIGKILL)
+        process = int(noted.read_bytes())
+        self.addCleanup(sessions.end, process)
         wait_for(lambda: not sessions.members(process))
 
     def test_a_watcher_that_is_killed_is_replaced(self) -> None:

@@ -9,13 +9,15 @@ import subprocess
 import sys
 import tempfile
 import threading
+import time
 import unittest
+from concurrent.futures import ThreadPoolExecutor
 from pathlib import Path
 from unittest import mock
 
 from pops_companions.commands.many import name_of_run
 from pops_companions.many import sessions
-from pops_companions.many.local import run_locally
+from pops_companions.many.local import as_ended, run_locally
 from pops_companions.many.program import Program, RunError
 from pops_companions.many.progress import Progress
 from pops_companions.many.tasks import Source, tasks_of
@@ -247,6 +249,26 @@ class Threads(unittest.TestCase):
         with mock.patch.object(threading.Thread, "start", start_one), self.assertRaises(KeyboardInterrupt):
             run_locally(program, tasks_of([Source("x.pop", LONG)] * 2), 2, lambda _: None)
         self.assertTrue(stopped.is_set())
+
+
+class Waits(unittest.TestCase):
+    def test_a_signal_that_comes_as_a_wait_begins(self) -> None:
+        """Here another thread takes it, so that it breaks off no wait either."""
+        heard = threading.Event()
+        before = signal.signal(signal.SIGUSR1, lambda *_: heard.set())
+        self.addCleanup(signal.signal, signal.SIGUSR1, before)
+        mask = signal.pthread_sigmask(signal.SIG_BLOCK, [signal.SIGUSR1])
+        self.addCleanup(signal.pthread_sigmask, signal.SIG_SETMASK, mask)
+
+        def send() -> bool:
+            time.sleep(0.2)
+            signal.pthread_sigmask(signal.SIG_UNBLOCK, [signal.SIGUSR1])
+            os.kill(os.getpid(), signal.SIGUSR1)
+            return heard.wait(support.PATIENCE)
+
+        with ThreadPoolExecutor(1) as pool:
+            (future,) = as_ended([pool.submit(send)])
+        self.assertTrue(future.result())
 
 
 class LastLine(unittest.TestCase):

@@ -3,12 +3,12 @@
 Each gets the reading end of a pipe whose writing end this process alone holds. The kernel closes
 that end with the process, also where it is killed, and then sends SIGKILL to the owner that is set
 for the reading end: the program's process group. Nothing runs between fork and exec, so threads do
-no harm. A program that is fed by a pipe has no window between its start and the setting of the
-owner: without its input it ends by itself.
+no harm. pops, which is fed by a pipe, has no window between its start and the setting of the owner:
+without its input it ends by itself.
 
 A program may start others in groups or sessions of their own, unless it surely starts none: a `Watcher`
-ends these. What has left the session and its environment and has closed the pipe isn't ended, and isn't
-waited for once the program is killed.
+that begins before it ends these. What has left the session and its environment and has closed the pipe
+isn't ended, and isn't waited for once the program is killed.
 """
 
 import errno
@@ -140,6 +140,9 @@ class ChildProcess:
             environment = {**(environment or os.environ), self._mark: "1"}
         self.is_killed = self._is_released = False
         try:
+            # (it may start others before its session is named)
+            if self._has_others:
+                self._watcher = sessions.Watcher(0, "", self._mark, self._pipe)
             self.run = subprocess.Popen(
                 [_plain(words[0]), *words[1:]],
                 executable=words[0],
@@ -151,8 +154,8 @@ class ChildProcess:
                 start_new_session=True,
             )
             killed_with_holder(self._watched, -self.run.pid)
-            if self._has_others:
-                self._watcher = sessions.Watcher(self.run.pid, "", self._mark, self._pipe)
+            if self._watcher is not None:
+                self._watcher.watch(self.run.pid)
         except BaseException:
             self._close()
             raise

@@ -13,18 +13,22 @@ _NEEDED, _STRINGS, _LENGTH = 1, 5, 10
 # The most bytes of a section that is read: a larger one is of no plain program.
 _MOST = 1 << 16
 _LIBRARY = b"libc.so.6"
-# The ends of names of functions that start a program or a process.
-_STARTING = (
-    *(b"execl", b"execle", b"execlp", b"execv", b"execve", b"execveat", b"execvp", b"execvpe"),
-    *(b"fork", b"clone", b"clone3", b"posix_spawn", b"posix_spawnp", b"popen", b"system"),
-    *(b"_Fork", b"forkpty", b"daemon", b"wordexp", b"pidfd_spawn", b"pidfd_spawnp"),
-    *(b"syscall", b"dlopen", b"dlmopen", b"dlsym"),
+# All that the programs of this project take from it. None of these starts a program or a process.
+_TAKEN = frozenset(
+    (
+        *(b"", _LIBRARY, b"__libc_start_main", b"__gmon_start__", b"__cxa_finalize"),
+        *(b"_ITM_deregisterTMCloneTable", b"_ITM_registerTMCloneTable", b"__stack_chk_fail"),
+        *(b"open", b"close", b"read", b"write", b"__write", b"__errno_location", b"__sysv_signal"),
+        *(b"malloc", b"realloc", b"free", b"memcpy", b"memmove", b"memset", b"memcmp"),
+        b"__x86_get_cpuid_feature_leaf",
+    )
 )
+_VERSION = b"GLIBC_"
 
 
 def starts_none(path: str) -> bool:
-    """Returns whether a program surely starts no other: it takes functions of the C library alone, and
-    none of these starts one.
+    """Returns whether a program surely starts no other: it takes what these programs take. (One that takes
+    more may call the system without the C library, as those in Go do.)
     """
     try:
         with open(path, "rb") as file:
@@ -34,7 +38,7 @@ def starts_none(path: str) -> bool:
     if found is None:
         return False
     libraries, names = found
-    return libraries == [_LIBRARY] and not any(name.endswith(_STARTING) for name in names)
+    return libraries == [_LIBRARY] and all(it in _TAKEN or it.startswith(_VERSION) for it in names)
 
 
 def _libraries_and_names(file: BinaryIO) -> Optional[tuple[list[bytes], list[bytes]]]:

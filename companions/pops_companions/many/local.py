@@ -2,9 +2,10 @@
 
 import threading
 import time
-from collections.abc import Callable, Sequence
+from collections.abc import Callable, Collection, Iterator, Sequence
+from concurrent.futures import FIRST_COMPLETED, Future, wait
 from queue import Empty, SimpleQueue
-from typing import Optional
+from typing import Optional, TypeVar
 
 from pops_companions.many.bundles import Bundles
 from pops_companions.many.program import OutputRunError, Program, RunError
@@ -14,6 +15,17 @@ from pops_companions.many.tasks import Result, Task
 TRIES = 2
 # After this many seconds without an end `wait_on` is called, to show that time passes.
 _SECONDS_OF_SILENCE = 0.5
+Found = TypeVar("Found")
+
+
+def as_ended(futures: Collection["Future[Found]"]) -> Iterator["Future[Found]"]:
+    """Yields futures as they end. Each wait is short: Python heeds a signal that comes as one begins only
+    after it.
+    """
+    left = set(futures)
+    while left:
+        found, left = wait(left, _SECONDS_OF_SILENCE, FIRST_COMPLETED)
+        yield from found
 
 
 def in_threads(

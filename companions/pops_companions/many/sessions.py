@@ -13,13 +13,14 @@ import subprocess
 import sys
 import threading
 import time
-from collections.abc import Callable, Collection, Iterator
+from collections.abc import Callable, Collection, Iterable, Iterator
 from contextlib import contextmanager, suppress
 
 _SECONDS_BETWEEN = 0.05
 _ROUNDS = 100
-# Becomes another program at the end of its input, unless it is killed before.
-_WAITS = 'read -r _ || exec "$@"'
+# Becomes another program at the end of its input, unless it is killed before, with one word more: the session
+# of which its input says, or its first word.
+_WAITS = 'session=$1; shift; while read -r it; do session=$it; done; exec "$@" "$session"'
 _MARK = "POPS_RUN_"
 
 
@@ -122,9 +123,21 @@ def _marked(mark: str) -> list[int]:
 
 
 def of_run(session: int, mark: str, pipe: str) -> list[int]:
-    """Returns all processes of a session, if it isn't 0, with a mark, and that hold a pipe."""
-    found = members(session) if session else []
-    return found + [*(_marked(mark) if mark else ()), *(_holding(pipe) if pipe else ())]
+    """Returns all processes of a session, with a mark, and that hold a pipe. If the session is 0, it is that
+    of those with the mark.
+    """
+    marked = _marked(mark) if mark else []
+    found = [it for one in ({session} if session else _sessions(marked)) for it in members(one)]
+    return found + marked + (_holding(pipe) if pipe else [])
+
+
+def _sessions(processes: Iterable[int]) -> set[int]:
+    """Returns the sessions of processes, but of those that ended meanwhile."""
+    found = set()
+    for process in processes:
+        with suppress(OSError):
+            found.add(int(_fields(process)[3]))
+    return found
 
 
 def below(begun: set[int], others: set[int]) -> set[int]:
@@ -197,8 +210,9 @@ class Watcher:
     def __init__(self, session: int, folder: str = "", mark: str = "", pipe: str = ""):
         """Starts it. OSError where it can't be started."""
         # (a shell takes less to wait than Python)
-        words = ["/bin/sh", "-c", _WAITS, "sh", sys.executable, "-I", __file__]
-        self._words = [*words, str(session), folder, mark, pipe]
+        self._words = ["/bin/sh", "-c", _WAITS, "sh"]
+        self._more = [sys.executable, "-I", __file__, folder, mark, pipe]
+        self._session = session
         self._lock = threading.Lock()
         self._is_over = False
         self._run = self._started()
@@ -214,13 +228,21 @@ class Watcher:
 
     def _started(self) -> "subprocess.Popen[bytes]":
         return subprocess.Popen(
-            self._words,
+            [*self._words, str(self._session), *self._more],
             stdin=subprocess.PIPE,
             stdout=subprocess.DEVNULL,
             start_new_session=True,
             # (what ends this process with its mark leaves the watcher)
             env={name: value for name, value in os.environ.items() if not name.startswith(_MARK)},
         )
+
+    def watch(self, session: int) -> None:
+        """Names the session, which begins after the watch."""
+        # (one that is killed just now is replaced)
+        with self._lock, suppress(OSError, ValueError):
+            self._session = session
+            assert self._run.stdin is not None
+            os.write(self._run.stdin.fileno(), b"%d\n" % session)
 
     def _replace(self) -> None:
         """Starts the process again whenever it ends before `close`."""
@@ -241,7 +263,7 @@ class Watcher:
 
 
 def main() -> None:
-    session, folder, mark, pipe = sys.argv[1:]
+    folder, mark, pipe, session = sys.argv[1:]
     sys.stdin.buffer.read()
     end(int(session), mark, pipe)
     if folder:

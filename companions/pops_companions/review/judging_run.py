@@ -10,7 +10,6 @@ from collections.abc import Callable, Iterable, Iterator, Sequence
 from concurrent.futures import ThreadPoolExecutor
 from contextlib import contextmanager, redirect_stderr, suppress
 from dataclasses import dataclass, replace
-from functools import partial
 from pathlib import Path
 from typing import NamedTuple, NoReturn, Optional, TextIO
 
@@ -23,6 +22,7 @@ from pops_companions.input.pieces import cut
 from pops_companions.input.writing import text_of_problems
 from pops_companions.many.identity import Known
 from pops_companions.many.journal import is_begun
+from pops_companions.many.local import as_ended
 from pops_companions.many.program import RunError
 from pops_companions.many.tries_program import TriesProgram
 from pops_companions.report.lines import in_a_line
@@ -219,7 +219,8 @@ class Work:
         jobs = self._runs.jobs or len(os.sched_getaffinity(0))
         with ThreadPoolExecutor(jobs) as pool:
             try:
-                found = list(pool.map(partial(self._tries_of, program), wanted))
+                futures = [pool.submit(self._tries_of, program, one) for one in wanted]
+                found = [future.result() for future in as_ended(futures)]
             except BaseException:
                 program.stop()
                 raise

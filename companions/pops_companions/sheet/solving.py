@@ -3,14 +3,14 @@
 import io
 import os
 from collections.abc import Sequence
-from concurrent.futures import Future, ThreadPoolExecutor, as_completed
+from concurrent.futures import Future, ThreadPoolExecutor
 from dataclasses import replace
 from typing import Optional
 
 from pops_companions.command import CommandError, Status
 from pops_companions.input.pieces import cut
 from pops_companions.many.child_process import MOST_OUTPUT, wrote_more
-from pops_companions.many.local import run_locally
+from pops_companions.many.local import as_ended, run_locally
 from pops_companions.many.program import Program, RunError
 from pops_companions.many.progress import Progress
 from pops_companions.many.tasks import UNFINISHED, Result, Source, tasks_of
@@ -69,7 +69,7 @@ class Solving:
                     problem = pieces[number].alone(self._text, False)
                     number_of[pool.submit(program.text_of, problem)] = number
                 with progress.beating():
-                    for future in as_completed(number_of):
+                    for future in as_ended(number_of):
                         texts[number_of[future]] = future.result()
                         progress.more()
             except RunError as error:
