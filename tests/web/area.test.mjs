@@ -52,12 +52,21 @@ function assertPart(text) {
   assert.equal(text.startsWith(area.value.slice(area.selectionStart), selectionNow().from), true);
 }
 
-test('area: a text of some thousand lines is shown as a whole', () => {
-  const text = `${TEXT}${'Kg6\n'.repeat(9000)}`;
+test('area: a text of 2,900 lines is shown as a whole', () => {
+  const text = `${TEXT}${'Kg6\n'.repeat(2900)}`;
   begin(text);
   assert.deepEqual([area.value, element('part').hidden, wholeText()], [text, true, text]);
   type('x');
   assert.equal(textNow().length, text.length + 1);
+  setText(TEXT);
+});
+
+test('area: no more lines are shown than a browser selects and removes within a second', () => {
+  const text = `${TEXT}${'a\n'.repeat(9900)}`;
+  begin(text);
+  assert.ok(area.value.split('\n').length <= 3000);
+  area.setSelectionRange(0, area.value.length);
+  assert.deepEqual([textNow(), selectionNow()], [text, { from: 0, to: text.length }]);
   setText(TEXT);
 });
 

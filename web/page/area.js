@@ -5,8 +5,8 @@ import { element } from '../elements.js';
 import { lastOf, lineAt, lineOf } from '../text.js';
 import { say } from '../words.js';
 
-// A text of more lines or letters is long.
-const MOST_AREA_LINES = 10000;
+// A text of more lines or letters is long. (To select 10,000 lines and remove them takes a browser seconds.)
+const MOST_AREA_LINES = 3000;
 const MOST_AREA_LETTERS = 1 << 19;
 // The lines of its part before and after the caret, and the most letters of these.
 const LINES_BESIDE = 1000;
