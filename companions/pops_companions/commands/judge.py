@@ -104,32 +104,32 @@ def judge(settings: Settings) -> Status:
     refuse_sheet(settings.collection, settings.output)
     given = given_problems(text)
     name = command.name_of(settings.collection)
-    work = Work(folder_of(settings), runs_of(settings), name)
-    work.begin(text, settings.resume)
-    work.solve()
-    short: Optional[str] = str(work.short) if work.solve_shorter(given) else None
-    tries = work.tries(text, given)
-    work.refuse_changed()
-    with work.read():
-        work.leave_out_others(tries)
-        beside = Beside(NAME, settings.solutions, str(work.input), short, tries)
-        judged = judgements_of(settings, work, beside)
-    work.compare(twin.item for one in judged for twin in one.judgements)
-    tally = Tally()
-    most = None if settings.all else MOST_LINES
-    heading = settings.heading or Path(name).stem
-    evidence = Evidence(boards_of(text), tries, settings.encoding, most)
-    page = sheet(tally.counted(judged), tally, heading, evidence)
-    command.write(settings.output, page.encode("utf-8", "replace"))
-    for one in judged:
-        print(as_text(one, settings.encoding, 0).split("\n")[0])
-    print(tally.text)
-    if work.end():
-        say(f"{work.folder.path} has files of others, which stay")
-    say_unfinished(work)
-    if work.failed:
-        return Status.UNFINISHED
-    return Status.GOOD if tally.all_sound else Status.FAULTY
+    with Work(folder_of(settings), runs_of(settings), name) as work:
+        work.begin(text, settings.resume)
+        work.solve()
+        short: Optional[str] = str(work.short) if work.solve_shorter(given) else None
+        tries = work.tries(text, given)
+        work.refuse_changed()
+        with work.read():
+            work.leave_out_others(tries)
+            beside = Beside(NAME, settings.solutions, str(work.input), short, tries)
+            judged = judgements_of(settings, work, beside)
+        work.compare(twin.item for one in judged for twin in one.judgements)
+        tally = Tally()
+        most = None if settings.all else MOST_LINES
+        heading = settings.heading or Path(name).stem
+        evidence = Evidence(boards_of(text), tries, settings.encoding, most)
+        page = sheet(tally.counted(judged), tally, heading, evidence)
+        command.write(settings.output, page.encode("utf-8", "replace"))
+        for one in judged:
+            print(as_text(one, settings.encoding, 0).split("\n")[0])
+        print(tally.text)
+        if work.end():
+            say(f"{work.folder.path} has files of others, which stay")
+        say_unfinished(work)
+        if work.failed:
+            return Status.UNFINISHED
+        return Status.GOOD if tally.all_sound else Status.FAULTY
 
 
 def say(message: str) -> None:

@@ -104,6 +104,12 @@ class Work:
         # The problems that pops-tries calls faulty.
         self._called_faulty: set[int] = set()
 
+    def __enter__(self) -> "Work":
+        return self
+
+    def __exit__(self, *_: object) -> None:
+        self.folder.close()
+
     def begin(self, text: bytes, resume: bool) -> None:
         """Makes the folder for an input, or takes up that of a run that was stopped."""
         tries = self._runs.tries

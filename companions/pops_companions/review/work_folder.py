@@ -14,7 +14,7 @@ import os
 import re
 import stat
 import weakref
-from collections.abc import Mapping
+from collections.abc import Callable, Mapping
 from contextlib import suppress
 from pathlib import Path
 from typing import NoReturn, Optional
@@ -83,8 +83,9 @@ class WorkFolder:
         self.path = path
         self._mark = b""
         self._programs: Programs = {}
-        # The folder as it is open and locked, once it is begun.
+        # The folder as it is open and locked, once it is begun, and what closes it.
         self._handle = -1
+        self._closing: Callable[[], object] = lambda: None
 
     def begin(self, text: bytes, programs: Programs, resume: bool) -> None:
         """Makes the folder for an input, or takes up that of a run that was stopped.
@@ -133,10 +134,14 @@ class WorkFolder:
         # (the run before this one may have removed it meanwhile)
         with suppress(FileNotFoundError):
             if os.path.samestat(os.fstat(handle), os.lstat(self.path)):
-                self._handle = handle
+                self._handle, self._closing = handle, close
                 return True
         close()
         return False
+
+    def close(self) -> None:
+        """Lets other runs have the folder."""
+        self._closing()
 
     def _refuse_foreign(self) -> None:
         """Refuses a folder that this program didn't make, and links in one that it made."""
