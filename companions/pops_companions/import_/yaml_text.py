@@ -7,15 +7,15 @@ tags have no meaning. Line ends at the end of a block text are dropped.
 
 import importlib
 import re
-from collections.abc import Iterable, Iterator
-from typing import Any, Union
+from collections.abc import Iterator
+from typing import Any, NamedTuple, Union
 
 from pops_companions.command import CommandError, Status
 
 Node = Union[None, "Scalar", "list[Node]", "dict[str, Node]"]
 
-_MARK = re.compile(r"---(?=\s|$)")
-_END = re.compile(r"\.\.\.(?=\s|$)")
+# The line that begins a document, or ends one.
+_MARK = re.compile(r"(?:---|\.\.\.)(?=\s|$)")
 # What PyYAML says of a text, and what it means for the one who wrote it.
 _MEANINGS = (
     (r"mapping values are not .*", "a colon with a blank after it is in a text without quotes"),
@@ -62,38 +62,40 @@ def line_of(key: str) -> int:
     return key.line
 
 
-class Document:
-    """A document of a stream: its lines, from `line` on, which `node` reads."""
+class Document(NamedTuple):
+    """A document of a stream: its text, from `line` on, which `node` reads."""
 
-    def __init__(self, line: int):
-        self.line = line
-        self.lines: list[str] = []
-        self.is_empty = True
-
-    def add(self, line: str) -> None:
-        """Adds a line; an empty one, or a comment alone, leaves an empty document empty."""
-        self.lines.append(line)
-        self.is_empty = self.is_empty and line.lstrip()[:1] in ("", "#")
+    line: int
+    text: str
 
     def node(self) -> Node:
-        """Returns what the document holds. YamlError where that can't be read."""
-        return _Reader(_events("\n".join(self.lines), self.line), self.line).document()
+        """Returns what the document holds. YamlError where that can't be read.
+
+        An unknown escape is read as it stands.
+        """
+        try:
+            return _read(self.text, self.line)
+        except YamlError:
+            mended = _with_known_escapes(self.text)
+            if mended == self.text:
+                raise
+        return _read(mended, self.line)
 
 
 def documents(text: str) -> Iterator[Document]:
-    """Yields the documents of a stream without the empty ones."""
-    document = Document(1)
-    for number, line in enumerate(text.split("\n"), start=1):
-        if _MARK.match(line) or _END.match(line):
-            if not document.is_empty:
-                yield document
-            document = Document(number)
-            line = "   " + line[3:] if _MARK.match(line) else ""
-        elif line.startswith("%") and document.is_empty:
-            line = ""
-        document.add(line)
-    if not document.is_empty:
-        yield document
+    """Yields the documents of a stream without the empty ones, and those of comments alone."""
+    line, is_empty = 1, True
+    lines: list[str] = []
+    for number, row in enumerate([*text.split("\n"), "..."], start=1):
+        if _MARK.match(row):
+            if not is_empty:
+                yield Document(line, "\n".join(lines))
+            line, lines, is_empty = number, [], True
+            row = f"   {row[3:]}" if row.startswith("-") else ""
+        elif row.startswith("%") and is_empty:
+            row = ""
+        lines.append(row)
+        is_empty = is_empty and row.lstrip()[:1] in ("", "#")
 
 
 def _pyyaml() -> Any:
@@ -118,30 +120,18 @@ def _with_known_escapes(text: str) -> str:
     )
 
 
-def _events(text: str, first: int) -> list[Any]:
-    """Returns the events of a document whose first line has this number.
-
-    An unknown escape is read as it stands.
-    """
-    try:
-        return _parsed(text, first)
-    except YamlError:
-        mended = _with_known_escapes(text)
-        if mended == text:
-            raise
-        return _parsed(mended, first)
-
-
-def _parsed(text: str, first: int) -> list[Any]:
+def _read(text: str, first: int) -> Node:
+    """Returns what a document holds whose first line has this number."""
     yaml = _pyyaml()
     if yaml.__with_libyaml__:
         try:
-            return list(_of_few_levels(yaml.parse(text, yaml.CBaseLoader), first))
+            return _Reader(yaml, yaml.parse(text, yaml.CBaseLoader), first).document()
         except yaml.YAMLError:
             # The slower parser names the same faults on every machine, and reads surrogates.
             pass
     try:
-        return list(_of_few_levels(_slowly_parsed(yaml.BaseLoader(text), first), first))
+        loader = yaml.BaseLoader(text)
+        return _Reader(yaml, iter(loader.get_event, None), first).document()
     except yaml.MarkedYAMLError as error:
         ends = "end of stream" in error.problem and error.context_mark is not None
         mark = error.context_mark if ends else error.problem_mark
@@ -149,34 +139,11 @@ def _parsed(text: str, first: int) -> list[Any]:
     except yaml.reader.ReaderError as error:
         line = first + text.count("\n", 0, error.position)
         raise YamlError(line, f"U+{error.character:04X} isn't allowed") from None
-
-
-def _slowly_parsed(loader: Any, first: int) -> Iterator[Any]:
-    """Yields the events of a loader of PyYAML, which refuses no code as too large by itself."""
-    while True:
-        try:
-            if not loader.check_event():
-                return
-            event = loader.get_event()
-        except (ValueError, OverflowError):
-            message = "a code or a number is too large"
-            raise YamlError(first + loader.line, message) from None
-        yield event
-
-
-def _of_few_levels(events: Iterable[Any], first: int) -> Iterator[Any]:
-    """Yields events; refuses too many levels before PyYAML has read them, which would take long."""
-    kinds = importlib.import_module("yaml.events")
-    level = 0
-    for event in events:
-        if isinstance(event, (kinds.SequenceStartEvent, kinds.MappingStartEvent)):
-            level += 1
-            if level > _MOST_LEVELS:
-                line = first + event.start_mark.line
-                raise YamlError(line, f"there are more than {_MOST_LEVELS} levels")
-        elif isinstance(event, (kinds.SequenceEndEvent, kinds.MappingEndEvent)):
-            level -= 1
-        yield event
+    except YamlError:
+        raise
+    except (ValueError, OverflowError):
+        # (PyYAML refuses none by itself)
+        raise YamlError(first + loader.line, "a code or a number is too large") from None
 
 
 def _meaning(problem: str) -> str:
@@ -190,48 +157,48 @@ def _meaning(problem: str) -> str:
 class _Reader:
     """Makes nodes of the events of a document whose first line has the number `first`."""
 
-    def __init__(self, events: list[Any], first: int):
-        kinds = importlib.import_module("yaml.events")
-        self._scalar = kinds.ScalarEvent
-        self._sequence, self._mapping = kinds.SequenceStartEvent, kinds.MappingStartEvent
-        self._nodes = (self._scalar, self._sequence, self._mapping, kinds.AliasEvent)
-        self._ends = (kinds.SequenceEndEvent, kinds.MappingEndEvent)
-        self._events = iter(events)
+    def __init__(self, yaml: Any, events: Iterator[Any], first: int):
+        self._yaml = yaml
+        self._events = events
         self._first = first
 
     def document(self) -> Node:
-        return next(self._node(event) for event in self._events if isinstance(event, self._nodes))
+        nodes = (it for it in self._events if isinstance(it, self._yaml.NodeEvent))
+        node = self._node(next(nodes))
+        for _ in self._events:
+            # (what follows may be refused)
+            pass
+        return node
 
-    def _line(self, event: Any) -> int:
-        line: int = self._first + event.start_mark.line
-        return line
+    def _fault(self, event: Any, text: str) -> YamlError:
+        return YamlError(self._first + event.start_mark.line, text)
 
-    def _node(self, event: Any) -> Node:
+    def _node(self, event: Any, level: int = 0) -> Node:
+        """Refuses too many levels before PyYAML has read them, which would take long."""
         if event.anchor is not None:
-            raise YamlError(self._line(event), "anchors and aliases aren't read")
-        if isinstance(event, self._sequence):
-            return [self._node(inner) for inner in self._inside()]
-        if isinstance(event, self._mapping):
-            return self._keys()
-        return self._text(event)
+            raise self._fault(event, "anchors and aliases aren't read")
+        if isinstance(event, self._yaml.ScalarEvent):
+            return self._text(event)
+        if level == _MOST_LEVELS:
+            raise self._fault(event, f"there are more than {_MOST_LEVELS} levels")
+        if isinstance(event, self._yaml.SequenceStartEvent):
+            return [self._node(inner, level + 1) for inner in self._inside()]
+        mapping: dict[str, Node] = {}
+        for inner in self._inside():
+            key = self._node(inner, level + 1)
+            if not isinstance(key, Scalar):
+                raise self._fault(inner, "a key has to be a text")
+            if key in mapping:
+                raise YamlError(key.line, f"the key {key} occurs twice")
+            mapping[key] = self._node(next(self._events), level + 1)
+        return mapping
 
     def _inside(self) -> Iterator[Any]:
         """Yields the first events of the nodes up to the end of a sequence or a mapping."""
         for event in self._events:
-            if isinstance(event, self._ends):
+            if isinstance(event, self._yaml.CollectionEndEvent):
                 return
             yield event
-
-    def _keys(self) -> dict[str, Node]:
-        mapping: dict[str, Node] = {}
-        for event in self._inside():
-            key = self._node(event)
-            if not isinstance(key, Scalar):
-                raise YamlError(self._line(event), "a key has to be a text")
-            if key in mapping:
-                raise YamlError(key.line, f"the key {key} occurs twice")
-            mapping[key] = self._node(next(self._events))
-        return mapping
 
     def _text(self, event: Any) -> Node:
         """Returns the text of a scalar; nothing for one without quotes that stands for nothing."""
@@ -242,5 +209,6 @@ class _Reader:
             # (a character outside the first plane may be written as two codes of four digits)
             text = text.encode("utf-16", "surrogatepass").decode("utf-16")
         except UnicodeDecodeError:
-            raise YamlError(self._line(event), "a code stands for no character") from None
-        return Scalar(text.rstrip() if event.style in ("|", ">") else text, self._line(event))
+            raise self._fault(event, "a code stands for no character") from None
+        line = self._first + event.start_mark.line
+        return Scalar(text.rstrip() if event.style in ("|", ">") else text, line)
