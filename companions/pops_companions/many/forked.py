@@ -5,16 +5,14 @@ import gc
 import os
 import select
 import signal
-import threading
 from collections import deque
 from collections.abc import Callable, Iterator
-from concurrent.futures import Future, ThreadPoolExecutor
 from contextlib import ExitStack, suppress
+from dataclasses import dataclass
 from functools import partial
 from multiprocessing import Pipe
-from multiprocessing.connection import Connection
-from queue import SimpleQueue
-from typing import Optional
+from multiprocessing.connection import Connection, wait
+from typing import Any, Optional
 
 from pops_companions.many.child_process import killed_with_holder, pipe_of_others
 
@@ -24,7 +22,7 @@ _MOST_AHEAD = 4
 # On how many copies a piece is tried that ends them.
 _TRIES = 2
 
-Work = Callable[[bytes], bytes]
+Work = Callable[[Any], bytes]
 
 
 def can_fork() -> bool:
@@ -32,18 +30,27 @@ def can_fork() -> bool:
     return hasattr(os, "fork") and hasattr(fcntl, "F_SETSIG")
 
 
+@dataclass
+class _Task:
+    """A piece, on how many copies it may still be tried, and its result."""
+
+    piece: Any
+    tries: int = _TRIES
+    result: Optional[bytes] = None
+
+
 class _Copy:
-    """A copy of this process, with the pipes to it and from it."""
+    """A copy of this process, with the pipes to it and from it, and what it does."""
 
     def __init__(self, work: Work, others: "list[_Copy]"):
         """Makes the copy. OSError where none can be made."""
-        self._is_over = False
+        self.task: Optional[_Task] = None
         with ExitStack() as own, ExitStack() as handed:
             watched, self._held = pipe_of_others()
             own.callback(os.close, self._held)
             handed.callback(os.close, watched)
-            self._pieces, given = Pipe()
-            own.callback(self._pieces.close)
+            self.pieces, given = Pipe()
+            own.callback(self.pieces.close)
             handed.callback(given.close)
             self._process = _forked(partial(_serve, work, watched, given, [self, *others]))
             own.pop_all()
@@ -51,28 +58,13 @@ class _Copy:
     def close(self) -> None:
         """Closes this process's ends of the pipes, the first of which ends the copy."""
         os.close(self._held)
-        self._pieces.close()
-
-    def result(self, piece: bytes) -> Optional[bytes]:
-        """Returns the result of a piece; None where the work failed. OSError or EOFError where the copy
-        has ended.
-        """
-        self._pieces.send_bytes(piece)
-        result: Optional[bytes] = self._pieces.recv()
-        return result
-
-    def kill(self) -> None:
-        """Ends the process, from any thread: its piece has no result."""
-        if not self._is_over:
-            os.kill(self._process, signal.SIGKILL)
+        self.pieces.close()
 
     def end(self) -> None:
         """Ends the process, and closes the pipes."""
-        if not self._is_over:
-            self.kill()
-            os.waitpid(self._process, 0)
-            self._is_over = True
-            self.close()
+        os.kill(self._process, signal.SIGKILL)
+        os.waitpid(self._process, 0)
+        self.close()
 
 
 def _forked(serve: Callable[[], None]) -> int:
@@ -111,7 +103,7 @@ def _work_off(work: Work, pieces: Connection) -> None:
     """Does the work on each piece, until there is none."""
     with suppress(EOFError, OSError):
         while True:
-            piece, result = pieces.recv_bytes(), None
+            piece, result = pieces.recv(), None
             with suppress(Exception):
                 result = work(piece)
             pieces.send(result)
@@ -122,65 +114,68 @@ class Copies:
 
     def __init__(self, work: Work, number: int):
         self._copies: list[_Copy] = []
+        self._waiting: deque[_Task] = deque()
         with suppress(OSError):
             for _ in range(number):
                 self._copies.append(_Copy(work, self._copies))
-        self._left = len(self._copies)
-        # The copies without a piece; None once all have ended.
-        self._idle: SimpleQueue[Optional[_Copy]] = SimpleQueue()
-        for copy in self._copies:
-            self._idle.put(copy)
-        if not self._copies:
-            self._idle.put(None)
-        self._lock = threading.Lock()
-        self._threads = ThreadPoolExecutor(max(self._left, 1))
 
     def __enter__(self) -> "Copies":
         return self
 
     def __exit__(self, *_: object) -> None:
         self.stop()
-        self._threads.shutdown(cancel_futures=True)
-        for copy in self._copies:
-            copy.end()
 
     def stop(self) -> None:
         """Ends all copies; the pieces that are left have no results."""
-        with self._lock:
-            for copy in self._copies:
-                copy.kill()
+        while self._copies:
+            self._copies.pop().end()
 
-    def results(self, pieces: Iterator[bytes]) -> Iterator[tuple[bytes, Optional[bytes]]]:
+    def results(self, pieces: Iterator[Any]) -> Iterator[tuple[Any, Optional[bytes]]]:
         """Yields each piece with its result in their order; without one, where the work failed on it, or
         two copies were ended on it, or none is left.
         """
-        given: deque[tuple[bytes, Future[Optional[bytes]]]] = deque()
+        given: deque[_Task] = deque()
+        most = _MOST_AHEAD * len(self._copies)
         for piece in pieces:
-            given.append((piece, self._threads.submit(self._result, piece)))
-            if len(given) > _MOST_AHEAD * len(self._copies):
-                first, result = given.popleft()
-                yield first, result.result()
-        for first, result in given:
-            yield first, result.result()
+            given.append(_Task(piece))
+            self._waiting.append(given[-1])
+            self._hand_out()
+            if len(given) > most:
+                yield self._done(given.popleft())
+        yield from map(self._done, given)
 
-    def _result(self, piece: bytes) -> Optional[bytes]:
-        """Returns the result of a piece by the next copy that has none."""
-        for _ in range(_TRIES):
-            copy = self._idle.get()
-            if copy is None:
-                self._idle.put(None)
-                break
-            try:
-                result = copy.result(piece)
-                self._idle.put(copy)
-                return result
-            except (EOFError, OSError):
-                self._end(copy)
-        return None
+    def _done(self, task: _Task) -> tuple[Any, Optional[bytes]]:
+        """Waits until a piece is done, or no copy is left for it; the others go on meanwhile."""
+        while task.tries and self._copies:
+            ready = wait([it.pieces for it in self._copies if it.task is not None])
+            for copy in [it for it in self._copies if it.pieces in ready]:
+                self._take(copy)
+            self._hand_out()
+        return task.piece, task.result
 
-    def _end(self, copy: _Copy) -> None:
-        with self._lock:
-            copy.end()
-            self._left -= 1
-            if not self._left:
-                self._idle.put(None)
+    def _hand_out(self) -> None:
+        """Gives pieces to the copies that have none."""
+        for copy in [it for it in self._copies if it.task is None]:
+            if self._waiting:
+                copy.task = self._waiting.popleft()
+                try:
+                    copy.pieces.send(copy.task.piece)
+                except OSError:
+                    self._drop(copy, copy.task)
+
+    def _take(self, copy: _Copy) -> None:
+        """Takes the result of a copy's piece."""
+        task, copy.task = copy.task, None
+        assert task is not None
+        try:
+            task.result, task.tries = copy.pieces.recv(), 0
+        except (EOFError, OSError):
+            self._drop(copy, task)
+
+    def _drop(self, copy: _Copy, task: _Task) -> None:
+        """Ends a copy that failed on a piece, which is tried again, if it may be."""
+        self._copies.remove(copy)
+        copy.end()
+        task.tries -= 1
+        if task.tries:
+            self._waiting.appendleft(task)

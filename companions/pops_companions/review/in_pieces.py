@@ -1,6 +1,5 @@
 """Cuts a large report at the ends of problems into pieces that can be judged apart."""
 
-import json
 import os
 import re
 import stat
@@ -45,16 +44,6 @@ class Piece(NamedTuple):
             end = at + _CHUNK - (self.place.offset + at) % _CHUNK
             yield self.text[at:end]
             at = end
-
-    @property
-    def data(self) -> bytes:
-        """The piece as bytes, which `of_data` takes."""
-        return json.dumps(self.place).encode("ascii") + b"\n" + self.text
-
-    @staticmethod
-    def of_data(data: bytes) -> "Piece":
-        place, _, text = data.partition(b"\n")
-        return Piece(Place(*json.loads(place)), text)
 
 
 def is_large(source: BinaryIO) -> bool:

@@ -77,13 +77,13 @@ class JudgedReport:
         """
         held = b""
         with Copies(self._result, number) as copies:
-            results = copies.results(piece.data for piece in cutter.pieces())
-            for data, result in results:
+            results = copies.results(cutter.pieces())
+            for piece, result in results:
                 head, _, texts = (result or b"").partition(b"\n")
                 known = _Known(*json.loads(head)) if head else None
                 if known is None or not self._add(known):
                     copies.stop()
-                    left = chain([data], (other for other, _ in results))
+                    left = chain([piece], (other for other, _ in results))
                     yield from self._texts_to_end(held, left, cutter, source)
                     return
                 end = len(texts) - known.held
@@ -92,10 +92,10 @@ class JudgedReport:
         yield from self._texts_to_end(held, iter(()), cutter, source)
 
     def _texts_to_end(
-        self, held: bytes, left: Iterator[bytes], cutter: Cutter, source: BinaryIO
+        self, held: bytes, left: Iterator[Piece], cutter: Cutter, source: BinaryIO
     ) -> Iterator[bytes]:
         """Yields what was held back, then the texts of pieces that are left and all that follows them."""
-        pieces = chain(map(Piece.of_data, left), cutter.rests())
+        pieces = chain(left, cutter.rests())
         first = next(pieces)
         chunks = chain.from_iterable(piece.chunks() for piece in chain([first], pieces))
         judgements = self._judgements_to_end(chain(chunks, pieces_of(source)), first.place.line)
@@ -103,9 +103,8 @@ class JudgedReport:
         yield held
         yield from self.texts_of(self._counted(chain(judged, judgements)))
 
-    def _result(self, data: bytes) -> bytes:
+    def _result(self, piece: Piece) -> bytes:
         """Returns the texts of a piece, after a line with what else is known of it."""
-        piece = Piece.of_data(data)
         self._course, self._tally = Course(piece.place.last), Tally()
         self._report.undecodable.clear()
         items = self._items(piece.chunks(), piece.place.line)
