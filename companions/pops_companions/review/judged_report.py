@@ -1,11 +1,11 @@
 """A report that is judged as it is read: a large one in pieces, by all processors."""
 
-import json
 import os
+import pickle
 from collections.abc import Callable, Iterable, Iterator
 from functools import partial
 from itertools import chain, islice
-from typing import BinaryIO, NamedTuple
+from typing import BinaryIO, NamedTuple, Optional
 
 from pops_companions.many.forked import Copies, can_fork
 from pops_companions.report.items import AnyItem
@@ -30,14 +30,14 @@ class Form(NamedTuple):
 
 
 class _Known(NamedTuple):
-    """What a copy of this process knows of a piece, beside its texts."""
+    """What a copy of this process knows of a piece; twins of its last group may follow."""
 
     last: int
     lacking: int
-    counts: dict[str, int]
+    tally: Tally
     undecodable: list[int]
-    # How many bytes the text of the last group has.
-    held: int
+    texts: bytes
+    last_text: bytes
 
 
 class JudgedReport:
@@ -79,16 +79,14 @@ class JudgedReport:
         with Copies(self._result, number) as copies:
             results = copies.results(cutter.pieces())
             for piece, result in results:
-                head, _, texts = (result or b"").partition(b"\n")
-                known = _Known(*json.loads(head)) if head else None
+                known: Optional[_Known] = pickle.loads(result) if result else None
                 if known is None or not self._add(known):
                     copies.stop()
                     left = chain([piece], (other for other, _ in results))
                     yield from self._texts_to_end(held, left, cutter, source)
                     return
-                end = len(texts) - known.held
-                yield held + texts[:end]
-                held = texts[end:]
+                yield held + known.texts
+                held = known.last_text
         yield from self._texts_to_end(held, iter(()), cutter, source)
 
     def _texts_to_end(
@@ -104,16 +102,15 @@ class JudgedReport:
         yield from self.texts_of(self._counted(chain(judged, judgements)))
 
     def _result(self, piece: Piece) -> bytes:
-        """Returns the texts of a piece, after a line with what else is known of it."""
+        """Returns what is known of a piece, with its texts."""
         self._course, self._tally = Course(piece.place.last), Tally()
         self._report.undecodable.clear()
         items = self._items(piece.chunks(), piece.place.line)
         judgements = self._beside.judgements_of_piece(items, self._course)
-        texts = list(self.texts_of(self._counted(judgements)))
-        held = 0 if self._form.apart else len(texts[-1])
-        course, counts = self._course, self._tally.counts
-        known = _Known(course.last, course.lacking, counts, self._report.undecodable, held)
-        return b"".join([json.dumps(known).encode("ascii"), b"\n", *texts])
+        texts = [*self.texts_of(self._counted(judgements)), *[b""] * self._form.apart]
+        course, undecodable = self._course, self._report.undecodable
+        known = (course.last, course.lacking, self._tally, undecodable, b"".join(texts[:-1]), texts[-1])
+        return pickle.dumps(_Known(*known))
 
     def _add(self, known: _Known) -> bool:
         """Adds what is known of a piece, unless it lacks too many problems; returns whether it did."""
@@ -121,7 +118,7 @@ class JudgedReport:
             return False
         self._course.last = known.last
         self._course.lacking += known.lacking
-        self._tally.add(known.counts)
+        self._tally.add(known.tally)
         self._report.undecodable.extend(known.undecodable)
         return True
 

@@ -109,15 +109,9 @@ class Tally:
             self._counts[one.verdict] += 1
             yield one
 
-    @property
-    def counts(self) -> dict[str, int]:
-        """The numbers by the words of the verdicts."""
-        return {verdict.value: count for verdict, count in self._counts.items()}
-
-    def add(self, counts: dict[str, int]) -> None:
+    def add(self, other: "Tally") -> None:
         """Adds what was counted elsewhere."""
-        for word, count in counts.items():
-            self._counts[Verdict(word)] += count
+        self._counts.update(other._counts)
 
     @property
     def all_sound(self) -> bool:
