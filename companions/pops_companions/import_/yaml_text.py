@@ -10,7 +10,7 @@ import re
 from collections.abc import Iterator
 from typing import Any, NamedTuple, Union
 
-from pops_companions.command import CommandError, Status
+from pops_companions.command import DeviceError
 
 Node = Union[None, "Scalar", "list[Node]", "dict[str, Node]"]
 
@@ -103,10 +103,8 @@ def _pyyaml() -> Any:
     try:
         return importlib.import_module("yaml")
     except ImportError:
-        raise CommandError(
-            Status.DEVICE,
-            "a collection in YAML needs PyYAML (Debian: python3-yaml), which isn't installed",
-        ) from None
+        message = "a collection in YAML needs PyYAML (Debian: python3-yaml), which isn't installed"
+        raise DeviceError(message) from None
 
 
 def _with_known_escapes(text: str) -> str:

@@ -4,7 +4,7 @@ import sys
 from typing import Optional
 
 from pops_companions import command
-from pops_companions.command import CommandError, Status
+from pops_companions.command import DeviceError
 from pops_companions.input.given import GivenProblem, given_problems
 from pops_companions.input.pieces import rest_of
 from pops_companions.report.source import is_input
@@ -27,7 +27,7 @@ def refuse_other_text(name: str, text: bytes) -> None:
             f"{name} is no input of pops: pops-import makes one of Popeye inputs and YAML,"
             " pops-explain says what is wrong with another text"
         )
-        raise CommandError(Status.DEVICE, message)
+        raise DeviceError(message)
 
 
 def warn_of_rest(companion: str, name: str, text: bytes) -> None:

@@ -6,7 +6,7 @@ from dataclasses import dataclass
 from typing import NoReturn, Optional
 
 from pops_companions.chess.stipulation import Play
-from pops_companions.command import CommandError, Status
+from pops_companions.command import DeviceError
 from pops_companions.input.given import GivenProblem
 from pops_companions.input.given_source import read_given
 from pops_companions.report.items import AnyItem, FaultyItem, SoundItem
@@ -72,8 +72,7 @@ class Beside:
             if item.number <= course.last:
                 if self._input_file is not None or self._short_file is not None or self._tries:
                     options = "--input, --short and --tries"
-                    message = f"{options} go with one report, not with several joined"
-                    raise CommandError(Status.DEVICE, message)
+                    raise DeviceError(f"{options} go with one report, not with several joined")
                 course.last = 0
             course.lacking += item.number - course.last - 1
             self._refuse_far(item.number, course.lacking)
@@ -101,7 +100,7 @@ class Beside:
         """Refuses a number that the input hasn't, or that leaves too many problems missing."""
         if not self.may_lack(lacking):
             message = f"problem {number} leaves more than {_MOST_LACKING} missing: name the --input"
-            raise CommandError(Status.DEVICE, message)
+            raise DeviceError(message)
         if self._input_file is not None and number > len(self.given):
             self._refuse_input(f"it has no problem {number}")
 
@@ -124,13 +123,13 @@ class Beside:
         tries = self._tries.get(item.number)
         if isinstance(tries, FaultyItem):
             message = f"the text of tries calls problem {item.number} faulty, and the report sound"
-            raise CommandError(Status.DEVICE, message)
+            raise DeviceError(message)
         if tries is not None:
             boards = {tries.board, item.board} - {None}
             theirs, ours = (tries.stipulation, tries.condition), (item.stipulation, item.condition)
             if len(boards) > 1 or theirs != ours or not is_of_item(tries, item):
                 message = f"the text of tries has another problem {item.number} than the report"
-                raise CommandError(Status.DEVICE, message)
+                raise DeviceError(message)
         return tries
 
     def _wanted(self, item: SoundItem) -> int:
@@ -148,8 +147,7 @@ class Beside:
             yield
         except AnswersError as error:
             message = f"{self._short_file} doesn't answer what --pose asked: {error}"
-            raise CommandError(Status.DEVICE, message) from None
+            raise DeviceError(message) from None
 
     def _refuse_input(self, reason: str) -> NoReturn:
-        message = f"{self._input_file} isn't the report's input: {reason}"
-        raise CommandError(Status.DEVICE, message)
+        raise DeviceError(f"{self._input_file} isn't the report's input: {reason}")

@@ -9,7 +9,7 @@ from contextlib import ExitStack, contextmanager
 from typing import BinaryIO, Generic, NoReturn, Optional, TypeVar, Union, cast
 
 from pops_companions import command
-from pops_companions.command import CommandError, Status
+from pops_companions.command import DeviceError
 from pops_companions.report.items import FaultyItem, Item
 from pops_companions.report.reader import ReportError, read_report
 from pops_companions.report.source import items_of_report
@@ -53,7 +53,7 @@ class KeptText(Generic[Kept]):
         return item
 
     def _refuse_changed(self) -> NoReturn:
-        raise CommandError(Status.DEVICE, f"{self._name} was changed while it was read")
+        raise DeviceError(f"{self._name} was changed while it was read")
 
 
 class KeptReport(KeptText[Item]):
@@ -92,10 +92,9 @@ def tries_of_text(name: str, source: Iterable[bytes]) -> Iterator[TriesReportIte
             is_empty = False
             yield item
     except ReportError as error:
-        message = f"{name} is no text of pops-tries: {error}"
-        raise CommandError(Status.DEVICE, message) from None
+        raise DeviceError(f"{name} is no text of pops-tries: {error}") from None
     if is_empty:
-        raise CommandError(Status.DEVICE, f"{name} is empty: no text of pops-tries")
+        raise DeviceError(f"{name} is empty: no text of pops-tries")
 
 
 def refuse_numbers_twice(name: str, numbers: Sequence[int]) -> None:
@@ -103,7 +102,7 @@ def refuse_numbers_twice(name: str, numbers: Sequence[int]) -> None:
     seen: set[int] = set()
     for number in numbers:
         if number in seen:
-            raise CommandError(Status.DEVICE, f"{name} has problem {number} twice")
+            raise DeviceError(f"{name} has problem {number} twice")
         seen.add(number)
 
 

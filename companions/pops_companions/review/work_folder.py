@@ -20,7 +20,7 @@ from pathlib import Path
 from typing import NoReturn, Optional
 
 from pops_companions import files
-from pops_companions.command import CommandError, Status
+from pops_companions.command import CommandError, DeviceError, Status
 from pops_companions.many.identity import Known
 
 _MARK = "pops-judge.mark"
@@ -100,8 +100,7 @@ class WorkFolder:
                 with suppress(FileExistsError):
                     self.path.mkdir(0o700)
         except OSError as error:
-            message = f"cannot write {error.filename}: {error.strerror}"
-            raise CommandError(Status.DEVICE, message) from None
+            raise DeviceError(f"cannot write {error.filename}: {error.strerror}") from None
         self._refuse_foreign()
         self._programs = programs
         mark, self._mark = self.path / _MARK, _mark_of(text, programs)
@@ -129,8 +128,7 @@ class WorkFolder:
         except BlockingIOError:
             self._refuse("is in use by another run")
         except OSError as error:
-            message = f"{self.path} can't be locked: {error.strerror}"
-            raise CommandError(Status.DEVICE, message) from None
+            raise DeviceError(f"{self.path} can't be locked: {error.strerror}") from None
         # (the run before this one may have removed it meanwhile)
         with suppress(FileNotFoundError):
             if os.path.samestat(os.fstat(handle), os.lstat(self.path)):

@@ -7,7 +7,7 @@ from concurrent.futures import Future, ThreadPoolExecutor
 from dataclasses import replace
 from typing import Optional
 
-from pops_companions.command import CommandError, Status
+from pops_companions.command import DeviceError
 from pops_companions.input.pieces import cut
 from pops_companions.many.child_process import MOST_OUTPUT, wrote_more
 from pops_companions.many.local import as_ended, run_locally
@@ -49,7 +49,7 @@ class Solving:
         finally:
             progress.end()
         for task, reason in failed:
-            raise CommandError(Status.DEVICE, f"{task.shown}: {reason}")
+            raise DeviceError(f"{task.shown}: {reason}")
         results.sort(key=lambda result: result.task.place)
         report = b"".join(map(_marked, results))
         return list(read_unfinished_report(io.BytesIO(report)))
@@ -74,7 +74,7 @@ class Solving:
                         progress.more()
             except RunError as error:
                 program.stop()
-                raise CommandError(Status.DEVICE, str(error)) from None
+                raise DeviceError(str(error)) from None
             except BaseException:
                 program.stop()
                 raise
@@ -91,14 +91,14 @@ def _item_of(text: bytes, number: int) -> TriesItem:
     if not isinstance(one, TriesItem):
         is_faulty = isinstance(one, FaultyItem)
         said = "calls it faulty, and pops sound" if is_faulty else "shows another problem"
-        raise CommandError(Status.DEVICE, f"problem {number}: pops-tries {said}")
+        raise DeviceError(f"problem {number}: pops-tries {said}")
     return replace(one, number=number)
 
 
 def _marked(result: Result) -> bytes:
     """Returns a problem's report; that of an unfinished one ends in a line that says so."""
     if result.spooled is not None:
-        raise CommandError(Status.DEVICE, f"{result.task.shown}: {wrote_more(MOST_OUTPUT)}")
+        raise DeviceError(f"{result.task.shown}: {wrote_more(MOST_OUTPUT)}")
     if result.status != UNFINISHED:
         return result.report
     return result.report + lines.UNFINISHED + b"%g s\n\n" % (result.seconds or 0.0)
