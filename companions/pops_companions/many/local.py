@@ -3,9 +3,8 @@
 import threading
 import time
 from collections.abc import Callable, Collection, Iterator, Sequence
-from concurrent.futures import FIRST_COMPLETED, Future, wait
-from queue import Empty, SimpleQueue
-from typing import Optional, TypeVar
+from concurrent.futures import FIRST_COMPLETED, Future, ThreadPoolExecutor, wait
+from typing import TypeVar
 
 from pops_companions.many.bundles import Bundles
 from pops_companions.many.program import OutputRunError, Program, RunError
@@ -37,37 +36,18 @@ def in_threads(
     """Does a work in this many threads, and waits for their ends. If the work fails in one, or the wait is
     broken off, `stop` ends it in all.
     """
-    ended: "SimpleQueue[Optional[BaseException]]" = SimpleQueue()
-
-    def go() -> None:
+    with ThreadPoolExecutor(max(number, 1)) as threads:
         try:
-            work()
-            ended.put(None)
-        except BaseException as error:
-            ended.put(error)
-
-    threads = [threading.Thread(target=go) for _ in range(number)]
-    try:
-        for thread in threads:
-            thread.start()
-        left = number
-        while left:
-            try:
-                fault = ended.get(timeout=_SECONDS_OF_SILENCE)
-            except Empty:
-                wait_on()
-                continue
-            if fault is not None:
-                raise fault
-            left -= 1
-    except BaseException:
-        stop()
-        raise
-    finally:
-        # (one that was never started isn't alive)
-        for thread in threads:
-            if thread.is_alive():
-                thread.join()
+            left = {threads.submit(work) for _ in range(number)}
+            while left:
+                ended, left = wait(left, _SECONDS_OF_SILENCE, FIRST_COMPLETED)
+                for future in ended:
+                    future.result()
+                if not ended:
+                    wait_on()
+        except BaseException:
+            stop()
+            raise
 
 
 class _Solving:
