@@ -5,7 +5,7 @@ on, past the place of the fault.
 """
 
 import re
-from collections.abc import Callable, Iterator, Sequence
+from collections.abc import Iterator, Sequence
 from typing import Optional
 
 from pops_companions.explain.case import Case, Explanation, known
@@ -342,7 +342,6 @@ def further_faults(
     if number > len(pieces):
         return
     near = near_of(text, pieces, number)
-    back = _Places(near)
     is_passed_over = False
     for fault in range(MOST_FAULTS):
         reading = near.read()
@@ -352,9 +351,9 @@ def further_faults(
             return
         said = explanation(near.text, reading)
         if fault > 0 and not (is_passed_over and reading.number is FaultKind.BEGIN_PROBLEM_MISSING):
-            marks = tuple(map(back.span, said.marks))
+            marks = tuple(map(near.in_whole, said.marks))
             at, piece = reading.fault_span.start, pieces[number - 1]
-            line = piece.line + text.count(b"\n", piece.start, back.span(Span(at, at)).start)
+            line = piece.line + text.count(b"\n", piece.start, near.in_whole(Span(at, at)).start)
             found = Fault(line, reading.number.value, FAULT_TEXTS[reading.number])
             yield ExplainedFault(number, title, found, Explanation(said.text, marks))
         edit = edit_for(near.text, near.number, reading, in_any_language=True, known=said)
@@ -369,7 +368,6 @@ def further_faults(
             # (without its end the problem would go on with the next one's words)
             if one.span == Span(0, len(near.text)) or not one.text and _ends_problem(near, one.span):
                 return
-            back.note(one)
             near.change(one)
 
 
@@ -395,28 +393,3 @@ def _passing_over(text: bytes, reading: Reading) -> list[Edit]:
         return [Edit(word.span, b"")]
     is_next = named(word.bytes, (*COMMANDS, *OPTIONS)) is not None
     return [*([] if is_next else [Edit(word.span, b"")]), Edit(option.span, b"")]
-
-
-class _Places:
-    """Where the places of a changed text were before its edits, in the whole text."""
-
-    def __init__(self, near: Near) -> None:
-        self._near = near
-        self._undo: list[Callable[[int], int]] = []
-
-    def note(self, edit: Edit) -> None:
-        start, stop, size = edit.span.start, edit.span.stop, len(edit.text)
-
-        def before(place: int) -> int:
-            if place <= start:
-                return place
-            return max(place - size + stop - start, start)
-
-        self._undo.append(before)
-
-    def span(self, span: Span) -> Span:
-        start, stop = span.start, span.stop
-        for before in reversed(self._undo):
-            start, stop = before(start), before(stop)
-        end = self._near.begin + self._near.stop - self._near.start
-        return self._near.in_whole(Span(min(start, end), min(max(stop, start), end)))

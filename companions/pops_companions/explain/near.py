@@ -22,6 +22,11 @@ class Edit(NamedTuple):
     def of(self, text: bytes) -> bytes:
         return text[: self.span.start] + self.text + text[self.span.stop :]
 
+    def before(self, place: int) -> int:
+        """Returns where a place of the changed text was."""
+        start, by = self.span.start, self.span.stop - self.span.start - len(self.text)
+        return max(place + by, start) if place > start else place
+
 
 class Near:
     """A problem of a text, up to a word that begins or ends another one, as a text of its own.
@@ -39,6 +44,7 @@ class Near:
         self.start = self.stop = start
         self.line_ends = line_ends
         self._whole = whole
+        self._edits: list[Edit] = []
         self._known: Optional[Reading] = self._unread(self.begin, line_ends)
         self.grow()
 
@@ -67,6 +73,7 @@ class Near:
         self.text = before + self.text[self.begin :] + self._whole[self.stop :]
         self.number, self.stop = number, len(self._whole)
         self.begin = self.start = self.line_ends = 0
+        self._edits = []
         self._forget()
 
     def _forget(self) -> None:
@@ -87,6 +94,7 @@ class Near:
     def change(self, edit: Edit) -> None:
         """Makes an edit. What was read before it stays."""
         self.text = edit.of(self.text)
+        self._edits.append(edit)
         if self._known is not None and not self._known.before_fault().stays(self.text, edit.span.start):
             self._forget()
 
@@ -106,9 +114,13 @@ class Near:
         return pieces[self.number - 1] if self.number <= len(pieces) else None
 
     def in_whole(self, span: Span) -> Span:
-        """Returns where some bytes are in the whole text, as long as this one is unchanged."""
+        """Returns where some bytes are in the whole text, or were before they were edited."""
+        start, stop = span.start, span.stop
+        for edit in reversed(self._edits):
+            start, stop = edit.before(start), edit.before(stop)
         by = self.start - self.begin
-        return Span(max(span.start + by, 0), max(span.stop + by, 0))
+        start, stop = min(start + by, self.stop), min(max(stop, start) + by, self.stop)
+        return Span(max(start, 0), max(stop, 0))
 
 
 def near_of(text: bytes, pieces: Sequence[Piece], number: int) -> Near:
