@@ -83,7 +83,7 @@ class Document(NamedTuple):
 
 
 def documents(text: str) -> Iterator[Document]:
-    """Yields the documents of a stream without the empty ones, and those of comments alone."""
+    """Yields the documents of a stream that have more than comments."""
     line, is_empty = 1, True
     lines: list[str] = []
     for number, row in enumerate([*text.split("\n"), "..."], start=1):
