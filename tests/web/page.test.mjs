@@ -488,8 +488,18 @@ test('tree: of a report that grows only the lines from the last first move on be
     drawGrowth();
     for (let at = 0; at < first; at++) Object.defineProperty(solutions, at, { value: own[at] });
     assert.equal(shown(), wanted);
-    assert.deepEqual(views.tree.groups[0].rows.map(it => it.index), SQUARES.map((_, at) => at));
-    assert.equal(views.tree.groups[0].rows.every(it => it.siblings === views.tree.groups[0].rows), true);
+    // (the arrows go through all rows, down and up)
+    views.tree.foldAll(false);
+    const { rows } = views.tree.groups[0];
+    assert.equal(rows.length, SQUARES.length);
+    for (const [ordered, step] of [[rows, 1], [[...rows].reverse(), -1]]) {
+      views.tree.go(ordered[0], 0);
+      for (const row of [...ordered.slice(1), ordered.at(-1)]) {
+        views.tree.step(step);
+        assert.equal(views.tree.current.row === row, true);
+      }
+    }
+    views.tree.leave();
   }
 });
 
