@@ -1,9 +1,6 @@
 #!/usr/bin/env python3
 """Makes the page's module of what the companions have in Python: web/out/companions.js, which isn't tracked.
 
-  web/from_python.py         makes the file
-  web/from_python.py --print prints it
-
 It translates the definitions that PARTS names, and all that these use, one to one: Python is the source, and `web/python.js` has what
 Python's own types and modules do. Types, docstrings and `assert` are left out. Bytes become strings of characters up to U+00FF. A form of
 Python that has no translation here ends with status 1 and names its line: it is written in a simpler form, or gets a translation.
@@ -212,20 +209,14 @@ def own_nodes(node: ast.AST) -> Iterator[ast.AST]:
 
 
 def arguments_of(node: Function) -> list[str]:
-    args = node.args
-    own = [it.arg for it in (*args.posonlyargs, *args.args, *args.kwonlyargs)]
-    return own + [it.arg for it in (args.vararg, args.kwarg) if it]
+    return [it.arg for it in ast.iter_child_nodes(node.args) if isinstance(it, ast.arg)]
 
 
 def locals_of(node: ast.FunctionDef) -> list[str]:
     """Returns the names that a function sets, without its arguments."""
-    found: dict[str, None] = {}
-    for it in own_nodes(node):
-        if isinstance(it, ast.Name) and isinstance(it.ctx, ast.Store):
-            found[it.id] = None
-        elif isinstance(it, ast.ExceptHandler) and it.name:
-            found[it.name] = None
-    return [it for it in found if it not in arguments_of(node)]
+    named = (it.id for it in own_nodes(node) if isinstance(it, ast.Name) and isinstance(it.ctx, ast.Store))
+    caught = (it.name for it in own_nodes(node) if isinstance(it, ast.ExceptHandler) and it.name)
+    return [it for it in dict.fromkeys([*named, *caught]) if it not in arguments_of(node)]
 
 
 def decorators_of(node: Union[ast.FunctionDef, ast.ClassDef]) -> set[str]:
@@ -600,17 +591,15 @@ class Writer:
         return [f"{when} (py.isinstance($fault, {kind})) {{", *named, *self.body(node.body), "}"]
 
     def write_FunctionDef(self, node: ast.FunctionDef) -> list[str]:
-        return self.function(node, f"{'function*' if self.is_generator(node) else 'function'} {node.name}")
+        return self.function(node, node.name)
 
-    def is_generator(self, node: ast.FunctionDef) -> bool:
-        return any(isinstance(it, (ast.Yield, ast.YieldFrom)) for it in own_nodes(node))
-
-    def function(self, node: ast.FunctionDef, head: str) -> list[str]:
+    def function(self, node: ast.FunctionDef, name: str, mark: str = "function") -> list[str]:
         inner = [it.name for it in own_nodes(node) if isinstance(it, ast.FunctionDef)]
         own = [it for it in locals_of(node) if it not in inner]
         self.scopes.append({*arguments_of(node), *own, *inner})
         said = self.body(node.body)
-        head = f"{head}({', '.join(self.parameters(node))})"
+        star = "*" if any(isinstance(it, (ast.Yield, ast.YieldFrom)) for it in own_nodes(node)) else ""
+        head = f"{mark}{star} {name}({', '.join(self.parameters(node))})"
         self.scopes.pop()
         names = [f"{it}$" if it in RESERVED else it for it in own]
         starts = [f" let {', '.join(names)};"] if names else []
@@ -648,17 +637,14 @@ class Writer:
         return self.value(node)
 
     def member(self, node: ast.FunctionDef) -> list[str]:
-        kinds = decorators_of(node)
-        if node.name == "__init__":
-            return self.function(node, "constructor")
-        if kinds - {"property", "staticmethod"}:
-            return []
-        mark = "get " if "property" in kinds else "static " if "staticmethod" in kinds else ""
-        return self.function(node, f"{mark}{'*' if self.is_generator(node) else ''}{node.name}")
+        marks = {"property": "get", "staticmethod": "static"}
+        if decorators_of(node) - {*marks}:
+            raise self.fail(node, "this decorator")
+        name = "constructor" if node.name == "__init__" else node.name
+        return self.function(node, name, "".join(marks[it] for it in decorators_of(node)))
 
     def constant(self, module: str, node: Union[ast.Assign, ast.AnnAssign]) -> list[str]:
-        if node.value is None:
-            return []
+        assert node.value is not None
         said = []
         value = self.value(node.value)
         for target in reversed(targets_of(node)):
@@ -674,7 +660,7 @@ class Writer:
         if isinstance(node, ast.ClassDef):
             return self.class_of(said, node)
         if isinstance(node, ast.FunctionDef):
-            function = self.function(node, f"{'function*' if self.is_generator(node) else 'function'} {said}")
+            function = self.function(node, said)
             for it in node.decorator_list:
                 function = [f"const {said} = {self.value(it)}({function[0]}", *function[1:-1], "});"]
             return function
@@ -708,26 +694,17 @@ def made() -> str:
     return "\n".join([*head, "", *said, "", "/** @type {any} */", "export const companions = {", *parts, " dict: py.dict,", " encoded: text => py.encode(text, 'utf-8'),", "};", ""])
 
 
-def write() -> None:
+def main() -> None:
     """Writes the file, which others may be reading, at once."""
-    text = made()
+    try:
+        text = made()
+    except UntranslatedError as fault:
+        sys.exit(f"from_python: {fault}")
     os.makedirs(os.path.dirname(MADE), exist_ok=True)
     with open(f"{MADE}.{os.getpid()}", "w", encoding="utf-8") as file:
         file.write(text)
     os.replace(f"{MADE}.{os.getpid()}", MADE)
 
 
-def main() -> int:
-    try:
-        if sys.argv[1:] == ["--print"]:
-            print(made(), end="")
-        else:
-            write()
-    except UntranslatedError as fault:
-        print(f"from_python: {fault}", file=sys.stderr)
-        return 1
-    return 0
-
-
 if __name__ == "__main__":
-    sys.exit(main())
+    main()
