@@ -74,15 +74,11 @@ METHODS_ALIKE = frozenset("end findall finditer fullmatch group groups match nod
 OPERATORS: dict[type, str] = {
     ast.Lt: "({} < {})", ast.LtE: "({} <= {})", ast.Gt: "({} > {})", ast.GtE: "({} >= {})", ast.Is: "({} === {})", ast.IsNot: "({} !== {})",
     ast.Eq: "py.eq({}, {})", ast.NotEq: "!py.eq({}, {})", ast.In: "py.has({1}, {0})", ast.NotIn: "!py.has({1}, {0})",
-    ast.Sub: "({} - {})", ast.Div: "({} / {})", ast.Mod: "({} % {})", ast.LShift: "({} << {})", ast.FloorDiv: "Math.floor({} / {})",
+    ast.Sub: "({} - {})", ast.Div: "({} / {})", ast.Mod: "py.percent({}, {})", ast.LShift: "({} << {})", ast.FloorDiv: "Math.floor({} / {})",
     ast.Add: "py.plus({}, {})", ast.Mult: "py.times({}, {})", ast.BitAnd: "py.common({}, {})", ast.BitOr: "py.joined({}, {})",
 }
-# Operators of a number or a text, which need no function.
-PLAIN_OPERATORS: dict[type, str] = {ast.Add: "({} + {})", ast.Eq: "({} === {})", ast.NotEq: "({} !== {})"}
 COMPREHENSIONS: dict[type, str] = {ast.GeneratorExp: "{}", ast.ListComp: "[...{}]", ast.SetComp: "py.set({})", ast.DictComp: "py.dict({})"}
 STATEMENTS: dict[type, list[str]] = {ast.Assert: [], ast.Pass: [], ast.Break: ["break;"], ast.Continue: ["continue;"]}
-# Functions whose result is true or false.
-TESTS = frozenset("any all isinstance bool endswith isalnum isalpha isascii isdecimal isdigit islower isupper startswith".split())
 
 Function = Union[ast.FunctionDef, ast.Lambda]
 # The names of arguments, and whether others are taken too.
@@ -237,13 +233,6 @@ def signature(node: Union[ast.FunctionDef, ast.ClassDef]) -> Signature:
     return [it.arg for it in (*args.posonlyargs, *args.args, *args.kwonlyargs) if it.arg != "self"], bool(args.kwarg)
 
 
-def is_plain(node: ast.expr) -> bool:
-    """Returns whether a value is a number or a text for certain."""
-    if isinstance(node, ast.BinOp):
-        return isinstance(node.op, ast.Add) and (is_plain(node.left) or is_plain(node.right))
-    return isinstance(node, ast.JoinedStr) or isinstance(node, ast.Constant) and isinstance(node.value, (str, bytes, int))
-
-
 def is_docstring(node: ast.stmt) -> bool:
     return isinstance(node, ast.Expr) and isinstance(node.value, ast.Constant)
 
@@ -358,41 +347,25 @@ class Writer:
         return f"!{self.test(node.operand)}" if isinstance(node.op, ast.Not) else f"-{self.value(node.operand)}"
 
     def value_BinOp(self, node: ast.BinOp) -> str:
-        if isinstance(node.op, ast.Mod) and is_plain(node.left):
-            return f"py.percent({self.value(node.left)}, {self.value(node.right)})"
         return self.operated(node.op, node.left, node.right)
 
     def operated(self, op: Union[ast.operator, ast.cmpop], left: ast.expr, right: ast.expr) -> str:
         form = OPERATORS.get(type(op))
         if form is None:
             raise self.fail(left, type(op).__name__)
-        if is_plain(left) or is_plain(right):
-            form = PLAIN_OPERATORS.get(type(op), form)
         return form.format(self.value(left), self.value(right))
 
     def value_BoolOp(self, node: ast.BoolOp) -> str:
-        is_or = isinstance(node.op, ast.Or)
-        if all(self.is_test(it) for it in node.values[:-1]):
-            return f"({(' || ' if is_or else ' && ').join(self.value(it) for it in node.values)})"
         said = self.value(node.values[-1])
         for it in reversed(node.values[:-1]):
-            said = f"py.{'or' if is_or else 'and'}({self.value(it)}, () => {said})"
+            said = f"py.{'or' if isinstance(node.op, ast.Or) else 'and'}({self.value(it)}, () => {said})"
         return said
-
-    def is_test(self, node: ast.expr) -> bool:
-        """Returns whether a value is true or false for certain."""
-        if isinstance(node, ast.BoolOp):
-            return all(self.is_test(it) for it in node.values)
-        if isinstance(node, ast.Call):
-            name = node.func.attr if isinstance(node.func, ast.Attribute) else getattr(node.func, "id", "")
-            return name in TESTS
-        return isinstance(node, ast.Compare) or isinstance(node, ast.UnaryOp) and isinstance(node.op, ast.Not)
 
     def test(self, node: ast.expr) -> str:
         """Returns a condition."""
         if isinstance(node, ast.BoolOp):
             return f"({(' || ' if isinstance(node.op, ast.Or) else ' && ').join(self.test(it) for it in node.values)})"
-        return self.value(node) if self.is_test(node) else f"py.bool({self.value(node)})"
+        return f"py.bool({self.value(node)})"
 
     def value_IfExp(self, node: ast.IfExp) -> str:
         return f"({self.test(node.test)} ? {self.value(node.body)} : {self.value(node.orelse)})"

@@ -323,7 +323,7 @@ export const py = (() => {
     Exception, ValueError, UnicodeError, UnicodeDecodeError, Record, Enum, re, unicodedata, members, iter, list, tuple: list, len, bool, at, sorted, min: utmost(-1), max: utmost(1), range,
     decode, encode, lstrip, rstrip, formatted, isinstance, str, dict, items, set, frozenset: set,
     format: (text, ...given) => text.replace(/\{(\w*)\}/g, (_, name) => (name ? given[name] ?? given[0][name] : given.shift())),
-    percent: (text, given) => { const all = [given].flat(); return text.replace(/%[ds]/g, () => all.shift()); },
+    percent: (one, given) => { if (typeof one === 'number') return one % given; const all = [given].flat(); return one.replace(/%[ds]/g, () => all.shift()); },
     translate: (text, table) => Array.from(text, letter => table.get(letter.codePointAt(0), letter)).join(''),
     record: (kind, given) => new kind(...kind.fields.map(name => given[name])),
     html: { escape: (text, { quote = true } = {}) => text.replace(quote ? /[&<>"']/g : /[&<>]/g, sign => ENTITIES[sign]) },
