@@ -651,18 +651,14 @@ class Writer:
         return said
 
 
-def in_camel(name: str) -> str:
-    first, *rest = name.split("_")
-    return first + "".join(it.title() for it in rest)
-
-
 def made() -> str:
     """Returns the module. Raises UntranslatedError."""
     program = Program()
     writer = Writer(program)
     said = writer.all()
     hand = [f"import {{ {', '.join(sorted(names))} }} from '{path}';" for path, names in sorted(writer.by_hand.items())]
-    parts = [f" {in_camel(name)}: {writer.global_name(module, name)}," for module, names in PARTS.items() for name in names]
+    in_camel = {name: re.sub("_(.)", lambda found: found[1].upper(), name) for names in PARTS.values() for name in names}
+    parts = [f" {in_camel[name]}: {writer.global_name(module, name)}," for module, names in PARTS.items() for name in names]
     head = ["// @ts-nocheck", "// Made by web/from_python.py.", "import { py } from '../python.js';", *hand]
     return "\n".join([*head, "", *said, "", "/** @type {any} */", "export const companions = {", *parts, " dict: py.dict,", " encoded: text => py.encode(text, 'utf-8'),", "};", ""])
 

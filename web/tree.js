@@ -32,12 +32,8 @@ const shownRows = rows => rows.flatMap(row => (isOpenRow(row) ? [row, ...shownRo
 const openPaths = rows => shownRows(rows).filter(isOpenRow).map(pathOf);
 /** @param {TreeRow} row @returns {TreeRow} */
 const topOf = row => (row.parent ? topOf(row.parent) : row);
-/**
- * Returns the rows of a list that are drawn.
- * @param {TreeRow[]} rows
- * @param {ListBox} [list]
- */
-const drawnOf = (rows, list) => rows.slice(0, list?.filling.drawn ?? 0);
+/** @param {ListBox} [list] @returns {any[]} what is drawn of a list */
+const drawnOf = list => list?.filling.things.slice(0, list.filling.drawn) ?? [];
 
 /**
  * Says what refutes a try, for its folded row; empty for another row.
@@ -200,8 +196,7 @@ export class Tree {
 
   /** Marks the drawn items whose problems were changed since. */
   markOld() {
-    const { things, drawn } = this.list.filling;
-    for (let at = 0; at < drawn; at++) this.markBox(this.list.children[at], things[at]);
+    drawnOf(this.list).forEach((item, at) => this.markBox(this.list.children[at], item));
   }
 
   /** @param {any} box @param {Item} item */
@@ -385,12 +380,12 @@ export class Tree {
    * @param {boolean} isOpen
    */
   foldAll(isOpen) {
-    const waiting = this.groups.flatMap(group => drawnOf(group.rows, group.list));
+    const waiting = this.groups.flatMap(group => drawnOf(group.list));
     let unfolded = 0;
     for (let at = 0; at < waiting.length && unfolded < MOST_UNFOLDED; at++) {
       const row = waiting[at];
       this.fold(row, isOpen);
-      const below = row.list ? drawnOf(row.below, row.list) : [];
+      const below = drawnOf(row.list);
       if (isOpen) unfolded += below.length;
       for (const it of below) waiting.push(it);
     }

@@ -5,11 +5,9 @@ import { py } from './python.js';
 
 /** Why a text isn't read. */
 export class YamlError extends py.ValueError {
-  /** @param {string} line the line's text */
-  constructor(line) {
-    super(line);
-    this.line = 1;
-  }
+  line = 1;
+  /** @param {string} said the line's text, or what is wrong */
+  constructor(said) { super(said); }
 }
 
 /** Returns a text of a collection. @param {string} text */
