@@ -95,6 +95,7 @@ test('patterns: lines of odd signs take no time that grows by the square', () =>
 });
 
 test('patterns: an odd sign ends no line', () => {
+  assert.throws(() => py.re.MULTILINE, py.ValueError);
   assert.equal(isOfAnother('Title a\u2028algebraic: b'), false);
   assert.equal(isOfAnother('a\n algebraic: b'), true);
   assert.equal(companions.begins('Remark a\u2028AnfangProblem'), false);
