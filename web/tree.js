@@ -491,7 +491,9 @@ export class Tree {
       return;
     }
     const shown = this.groups.flatMap(group => shownRows(group.rows));
-    const next = shown[shown.indexOf(this.current.row) + step];
+    let { row } = this.current;
+    while (row.parent && !shown.includes(row)) row = row.parent;
+    const next = shown[shown.indexOf(row) + step];
     if (next) this.go(next, 0);
   }
 }

@@ -556,6 +556,21 @@ test('tree: threats and refutations, by keys and by the switch', () => {
   leave();
 });
 
+test('tree: from a move that is folded away the arrows go to the rows beside the one that hides it', () => {
+  begin(TWO_MOVES, TRIES);
+  const { tree } = views;
+  const rows = tree.groups.flatMap(it => it.rows);
+  const hiding = rows.findIndex(it => it.hasBelow);
+  for (const [step, wanted] of [[1, rows[hiding + 1]], [-1, rows[hiding - 1]]]) {
+    tree.go(rows[hiding].below[0], 0);
+    tree.fold(rows[hiding], false);
+    const before = tree.current.row;
+    tree.step(step);
+    assert.equal(tree.current.row === (wanted ?? before), true);
+  }
+  leave();
+});
+
 test('tree: a report with tries that grows keeps what is unfolded', () => {
   begin(TWO_MOVES, TRIES.slice(0, TRIES.indexOf('  1...')));
   for (let step = 0; step < 3; step++) views.tree.onward();
