@@ -19,15 +19,6 @@ function wantedItems({ report, numbers }) {
   return itemsOf(report ?? '').filter(it => wanted.has(it.number));
 }
 
-/**
- * Writes the solution of the one item that is wanted.
- * @param {ChoreGiven} it
- */
-function shortOfItem(it) {
-  const [item] = /** @type {SoundItem[]} */ (wantedItems(it));
-  return shortText(item, menOfItem(item, blocksOf(it.text)[item.number - 1]));
-}
-
 /** @type {Record<string, (given: ChoreGiven) => any>} */
 const CHORES = {
   import: ({ text }) => imported(text),
@@ -40,7 +31,10 @@ const CHORES = {
     return { made, letters: beyondLatex(made) };
   },
   page: it => sheetOf(wantedItems(it), say('sheet'), givenOf(it.text)),
-  short: shortOfItem,
+  short: it => {
+    const [item] = /** @type {SoundItem[]} */ (wantedItems(it));
+    return shortText(item, menOfItem(item, blocksOf(it.text)[item.number - 1]));
+  },
   yaml: it => yamlOf(it.text, wantedItems(it)),
 };
 

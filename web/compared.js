@@ -72,12 +72,8 @@ const rowsIn = (phases, kind) => phases.find(it => it.kind === kind)?.rows ?? []
  * @param {{ kind: string, rows: Row[] }[]} phases
  */
 export function isComparable(phases) {
-  let columns = (rowsIn(phases, 'set').length ? 1 : 0) + rowsIn(phases, 'play').length;
-  for (const it of rowsIn(phases, 'tries')) {
-    if (columns > 1) break;
-    columns += hasVariations(it) ? 1 : 0;
-  }
-  return columns > 1;
+  let lacking = 2 - (rowsIn(phases, 'set').length ? 1 : 0) - rowsIn(phases, 'play').length;
+  return lacking <= 0 || rowsIn(phases, 'tries').some(it => hasVariations(it) && --lacking === 0);
 }
 
 /**

@@ -1,9 +1,6 @@
 #!/usr/bin/env python3
 """Makes the page's module of what the companions have in Python: web/out/companions.js, which isn't tracked.
 
-  web/from_python.py         makes the file
-  web/from_python.py --print prints it
-
 It translates the definitions that PARTS names, and all that these use, one to one: Python is the source, and `web/python.js` has what
 Python's own types and modules do. Types, docstrings and `assert` are left out. Bytes become strings of characters up to U+00FF. A form of
 Python that has no translation here ends with status 1 and names its line: it is written in a simpler form, or gets a translation.
@@ -77,15 +74,11 @@ METHODS_ALIKE = frozenset("end findall finditer fullmatch group groups match nod
 OPERATORS: dict[type, str] = {
     ast.Lt: "({} < {})", ast.LtE: "({} <= {})", ast.Gt: "({} > {})", ast.GtE: "({} >= {})", ast.Is: "({} === {})", ast.IsNot: "({} !== {})",
     ast.Eq: "py.eq({}, {})", ast.NotEq: "!py.eq({}, {})", ast.In: "py.has({1}, {0})", ast.NotIn: "!py.has({1}, {0})",
-    ast.Sub: "({} - {})", ast.Div: "({} / {})", ast.Mod: "({} % {})", ast.LShift: "({} << {})", ast.FloorDiv: "Math.floor({} / {})",
+    ast.Sub: "({} - {})", ast.Div: "({} / {})", ast.Mod: "py.percent({}, {})", ast.LShift: "({} << {})", ast.FloorDiv: "Math.floor({} / {})",
     ast.Add: "py.plus({}, {})", ast.Mult: "py.times({}, {})", ast.BitAnd: "py.common({}, {})", ast.BitOr: "py.joined({}, {})",
 }
-# Operators of a number or a text, which need no function.
-PLAIN_OPERATORS: dict[type, str] = {ast.Add: "({} + {})", ast.Eq: "({} === {})", ast.NotEq: "({} !== {})"}
 COMPREHENSIONS: dict[type, str] = {ast.GeneratorExp: "{}", ast.ListComp: "[...{}]", ast.SetComp: "py.set({})", ast.DictComp: "py.dict({})"}
 STATEMENTS: dict[type, list[str]] = {ast.Assert: [], ast.Pass: [], ast.Break: ["break;"], ast.Continue: ["continue;"]}
-# Functions whose result is true or false.
-TESTS = frozenset("any all isinstance bool endswith isalnum isalpha isascii isdecimal isdigit islower isupper startswith".split())
 
 Function = Union[ast.FunctionDef, ast.Lambda]
 # The names of arguments, and whether others are taken too.
@@ -212,20 +205,14 @@ def own_nodes(node: ast.AST) -> Iterator[ast.AST]:
 
 
 def arguments_of(node: Function) -> list[str]:
-    args = node.args
-    own = [it.arg for it in (*args.posonlyargs, *args.args, *args.kwonlyargs)]
-    return own + [it.arg for it in (args.vararg, args.kwarg) if it]
+    return [it.arg for it in ast.iter_child_nodes(node.args) if isinstance(it, ast.arg)]
 
 
 def locals_of(node: ast.FunctionDef) -> list[str]:
     """Returns the names that a function sets, without its arguments."""
-    found: dict[str, None] = {}
-    for it in own_nodes(node):
-        if isinstance(it, ast.Name) and isinstance(it.ctx, ast.Store):
-            found[it.id] = None
-        elif isinstance(it, ast.ExceptHandler) and it.name:
-            found[it.name] = None
-    return [it for it in found if it not in arguments_of(node)]
+    named = (it.id for it in own_nodes(node) if isinstance(it, ast.Name) and isinstance(it.ctx, ast.Store))
+    caught = (it.name for it in own_nodes(node) if isinstance(it, ast.ExceptHandler) and it.name)
+    return [it for it in dict.fromkeys([*named, *caught]) if it not in arguments_of(node)]
 
 
 def decorators_of(node: Union[ast.FunctionDef, ast.ClassDef]) -> set[str]:
@@ -244,13 +231,6 @@ def signature(node: Union[ast.FunctionDef, ast.ClassDef]) -> Signature:
         return signature(begins[0]) if begins else ([*fields_of(node)], False)
     args = node.args
     return [it.arg for it in (*args.posonlyargs, *args.args, *args.kwonlyargs) if it.arg != "self"], bool(args.kwarg)
-
-
-def is_plain(node: ast.expr) -> bool:
-    """Returns whether a value is a number or a text for certain."""
-    if isinstance(node, ast.BinOp):
-        return isinstance(node.op, ast.Add) and (is_plain(node.left) or is_plain(node.right))
-    return isinstance(node, ast.JoinedStr) or isinstance(node, ast.Constant) and isinstance(node.value, (str, bytes, int))
 
 
 def is_docstring(node: ast.stmt) -> bool:
@@ -367,41 +347,25 @@ class Writer:
         return f"!{self.test(node.operand)}" if isinstance(node.op, ast.Not) else f"-{self.value(node.operand)}"
 
     def value_BinOp(self, node: ast.BinOp) -> str:
-        if isinstance(node.op, ast.Mod) and is_plain(node.left):
-            return f"py.percent({self.value(node.left)}, {self.value(node.right)})"
         return self.operated(node.op, node.left, node.right)
 
     def operated(self, op: Union[ast.operator, ast.cmpop], left: ast.expr, right: ast.expr) -> str:
         form = OPERATORS.get(type(op))
         if form is None:
             raise self.fail(left, type(op).__name__)
-        if is_plain(left) or is_plain(right):
-            form = PLAIN_OPERATORS.get(type(op), form)
         return form.format(self.value(left), self.value(right))
 
     def value_BoolOp(self, node: ast.BoolOp) -> str:
-        is_or = isinstance(node.op, ast.Or)
-        if all(self.is_test(it) for it in node.values[:-1]):
-            return f"({(' || ' if is_or else ' && ').join(self.value(it) for it in node.values)})"
         said = self.value(node.values[-1])
         for it in reversed(node.values[:-1]):
-            said = f"py.{'or' if is_or else 'and'}({self.value(it)}, () => {said})"
+            said = f"py.{'or' if isinstance(node.op, ast.Or) else 'and'}({self.value(it)}, () => {said})"
         return said
-
-    def is_test(self, node: ast.expr) -> bool:
-        """Returns whether a value is true or false for certain."""
-        if isinstance(node, ast.BoolOp):
-            return all(self.is_test(it) for it in node.values)
-        if isinstance(node, ast.Call):
-            name = node.func.attr if isinstance(node.func, ast.Attribute) else getattr(node.func, "id", "")
-            return name in TESTS
-        return isinstance(node, ast.Compare) or isinstance(node, ast.UnaryOp) and isinstance(node.op, ast.Not)
 
     def test(self, node: ast.expr) -> str:
         """Returns a condition."""
         if isinstance(node, ast.BoolOp):
             return f"({(' || ' if isinstance(node.op, ast.Or) else ' && ').join(self.test(it) for it in node.values)})"
-        return self.value(node) if self.is_test(node) else f"py.bool({self.value(node)})"
+        return f"py.bool({self.value(node)})"
 
     def value_IfExp(self, node: ast.IfExp) -> str:
         return f"({self.test(node.test)} ? {self.value(node.body)} : {self.value(node.orelse)})"
@@ -600,17 +564,15 @@ class Writer:
         return [f"{when} (py.isinstance($fault, {kind})) {{", *named, *self.body(node.body), "}"]
 
     def write_FunctionDef(self, node: ast.FunctionDef) -> list[str]:
-        return self.function(node, f"{'function*' if self.is_generator(node) else 'function'} {node.name}")
+        return self.function(node, node.name)
 
-    def is_generator(self, node: ast.FunctionDef) -> bool:
-        return any(isinstance(it, (ast.Yield, ast.YieldFrom)) for it in own_nodes(node))
-
-    def function(self, node: ast.FunctionDef, head: str) -> list[str]:
+    def function(self, node: ast.FunctionDef, name: str, mark: str = "function") -> list[str]:
         inner = [it.name for it in own_nodes(node) if isinstance(it, ast.FunctionDef)]
         own = [it for it in locals_of(node) if it not in inner]
         self.scopes.append({*arguments_of(node), *own, *inner})
         said = self.body(node.body)
-        head = f"{head}({', '.join(self.parameters(node))})"
+        star = "*" if any(isinstance(it, (ast.Yield, ast.YieldFrom)) for it in own_nodes(node)) else ""
+        head = f"{mark}{star} {name}({', '.join(self.parameters(node))})"
         self.scopes.pop()
         names = [f"{it}$" if it in RESERVED else it for it in own]
         starts = [f" let {', '.join(names)};"] if names else []
@@ -648,17 +610,14 @@ class Writer:
         return self.value(node)
 
     def member(self, node: ast.FunctionDef) -> list[str]:
-        kinds = decorators_of(node)
-        if node.name == "__init__":
-            return self.function(node, "constructor")
-        if kinds - {"property", "staticmethod"}:
-            return []
-        mark = "get " if "property" in kinds else "static " if "staticmethod" in kinds else ""
-        return self.function(node, f"{mark}{'*' if self.is_generator(node) else ''}{node.name}")
+        marks = {"property": "get", "staticmethod": "static"}
+        if decorators_of(node) - {*marks}:
+            raise self.fail(node, "this decorator")
+        name = "constructor" if node.name == "__init__" else node.name
+        return self.function(node, name, "".join(marks[it] for it in decorators_of(node)))
 
     def constant(self, module: str, node: Union[ast.Assign, ast.AnnAssign]) -> list[str]:
-        if node.value is None:
-            return []
+        assert node.value is not None
         said = []
         value = self.value(node.value)
         for target in reversed(targets_of(node)):
@@ -674,7 +633,7 @@ class Writer:
         if isinstance(node, ast.ClassDef):
             return self.class_of(said, node)
         if isinstance(node, ast.FunctionDef):
-            function = self.function(node, f"{'function*' if self.is_generator(node) else 'function'} {said}")
+            function = self.function(node, said)
             for it in node.decorator_list:
                 function = [f"const {said} = {self.value(it)}({function[0]}", *function[1:-1], "});"]
             return function
@@ -692,42 +651,29 @@ class Writer:
         return said
 
 
-def in_camel(name: str) -> str:
-    first, *rest = name.split("_")
-    return first + "".join(it.title() for it in rest)
-
-
 def made() -> str:
     """Returns the module. Raises UntranslatedError."""
     program = Program()
     writer = Writer(program)
     said = writer.all()
     hand = [f"import {{ {', '.join(sorted(names))} }} from '{path}';" for path, names in sorted(writer.by_hand.items())]
-    parts = [f" {in_camel(name)}: {writer.global_name(module, name)}," for module, names in PARTS.items() for name in names]
+    in_camel = {name: re.sub("_(.)", lambda found: found[1].upper(), name) for names in PARTS.values() for name in names}
+    parts = [f" {in_camel[name]}: {writer.global_name(module, name)}," for module, names in PARTS.items() for name in names]
     head = ["// @ts-nocheck", "// Made by web/from_python.py.", "import { py } from '../python.js';", *hand]
     return "\n".join([*head, "", *said, "", "/** @type {any} */", "export const companions = {", *parts, " dict: py.dict,", " encoded: text => py.encode(text, 'utf-8'),", "};", ""])
 
 
-def write() -> None:
+def main() -> None:
     """Writes the file, which others may be reading, at once."""
-    text = made()
+    try:
+        text = made()
+    except UntranslatedError as fault:
+        sys.exit(f"from_python: {fault}")
     os.makedirs(os.path.dirname(MADE), exist_ok=True)
     with open(f"{MADE}.{os.getpid()}", "w", encoding="utf-8") as file:
         file.write(text)
     os.replace(f"{MADE}.{os.getpid()}", MADE)
 
 
-def main() -> int:
-    try:
-        if sys.argv[1:] == ["--print"]:
-            print(made(), end="")
-        else:
-            write()
-    except UntranslatedError as fault:
-        print(f"from_python: {fault}", file=sys.stderr)
-        return 1
-    return 0
-
-
 if __name__ == "__main__":
-    sys.exit(main())
+    main()

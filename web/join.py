@@ -104,24 +104,16 @@ def joined(path: str) -> str:
     return "\n".join(["'use strict';", *(module.body for module in modules.values())])
 
 
-def joined_module(path: str) -> str:
-    """Returns the script of `joined` as a module with the exports of the file at this path."""
-    names = ", ".join(sorted(read_module(path).exports))
-    return f"{joined(path)}\nexport {{ {names} }};"
-
-
-def main() -> int:
-    words = sys.argv[1:]
+def main() -> None:
+    words = sys.argv[1:] or [f"{HERE}/page.js"]
     try:
-        if words[:1] == ["--module"]:
-            print(joined_module(words[1]))
-        else:
-            print(joined(words[0] if words else f"{HERE}/page.js"))
+        script = joined(words[-1])
+        if words[0] == "--module":
+            script += f"\nexport {{ {', '.join(sorted(read_module(words[-1]).exports))} }};"
     except JoinError as fault:
-        print(f"join: {fault}", file=sys.stderr)
-        return 1
-    return 0
+        sys.exit(f"join: {fault}")
+    print(script)
 
 
 if __name__ == "__main__":
-    sys.exit(main())
+    main()

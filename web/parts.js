@@ -109,7 +109,6 @@ export class PhasePiece {
   constructor({ kind, parts }, limit) {
     this.kind = kind;
     this.limit = limit;
-    this.parts = parts ?? 0;
     this.isWhole = false;
     this.isCut = false;
     /** @type {Map<number, PartSolutions>} the parts that aren't shown yet */
@@ -120,27 +119,19 @@ export class PhasePiece {
     this.found = 0;
     this.begun = `${kind}\n${parts === null ? 'not possible\n' : ''}`;
     this.isPossible = parts !== null;
-    this.last = this.parts;
+    this.last = parts ?? 0;
   }
 
   /** @param {number} number @param {PartSolutions} part */
   take(number, { all, isCut }) {
     this.solutions.set(number, { all, isCut });
     this.counts.set(number, all.length - (isCut ? 1 : 0));
-    this.last = this.lastNeeded(isCut ? Math.min(this.last, number) : this.last);
-  }
-
-  /**
-   * Returns the last part that is needed: together with the finished parts before it, it reaches the limit.
-   * @param {number} last
-   */
-  lastNeeded(last) {
-    let count = 0;
-    for (let number = 1; number <= last; number++) {
-      count += this.counts.get(number) ?? 0;
-      if (count >= this.limit) return number;
+    if (isCut) this.last = Math.min(this.last, number);
+    // (the last part that is needed reaches the limit together with the finished parts before it)
+    for (let at = 1, count = 0; at <= this.last; at++) {
+      count += this.counts.get(at) ?? 0;
+      if (count >= this.limit) this.last = at;
     }
-    return last;
   }
 
   /** Returns the text that is new since the last call: complete solutions of parts in order, and at the end their number. */

@@ -93,14 +93,10 @@ export function menOfRanks(ranks) {
 export function fenOf({ men, turn, barred, crossed }) {
   const passed = /^[a-h][36]$/.test(crossed ?? '') ? crossed : '-';
   const rights = homeRights(men).filter(right => !barred.includes(CORNERS[right]) && !barred.includes(`e${CORNERS[right][1]}`));
-  return `${placementOf(men)} ${turn} ${rights.join('') || '-'} ${passed} 0 1`;
-}
-
-/** @param {Men} men */
-function placementOf(men) {
   /** @param {string} letter */
   const fenLetter = letter => FEN_LETTERS[letter] ?? FEN_LETTERS[letter.toUpperCase()].toLowerCase();
-  return ranksOf(men).map(row => row.replace(/[a-z]/gi, fenLetter).replace(/\.+/g, points => String(points.length))).join('/');
+  const rows = ranksOf(men).map(row => row.replace(/[a-z]/gi, fenLetter).replace(/\.+/g, points => String(points.length)));
+  return `${rows.join('/')} ${turn} ${rights.join('') || '-'} ${passed} 0 1`;
 }
 
 /**

@@ -116,7 +116,6 @@ export const py = (() => {
   }
 
   const IGNORECASE = 2;
-  const MULTILINE = 8;
   const DOTALL = 16;
   const ASCII = 256;
   // What a class of signs of Python holds, within a class of JavaScript: in texts, and in bytes.
@@ -145,15 +144,14 @@ export const py = (() => {
     return `(?:${rest && `(?![${rest}])`}[${negated[0]}])`;
   }
 
-  /** Writes a pattern of Python's in JavaScript, without flags for lines: JavaScript knows other ends of lines than Python. */
+  /** Writes a pattern of Python's in JavaScript. `re.MULTILINE` isn't known: JavaScript has other ends of lines than Python. */
   function patternOf(text, flags) {
     const known = flags & ASCII ? OF_BYTES : OF_TEXTS;
-    const end = flags & MULTILINE ? '(?![^\\n])' : '(?![^\\n]|\\n[^])';
     return text.replace(PARTS_OF_PATTERN, (part, sign, inside, letter) => {
       if (inside !== undefined) return classOf(sign, inside, known);
       if (letter === 'Z') return '(?![^])';
       if (letter !== undefined) return /[DSW]/.test(letter) ? `[^${known[letter.toLowerCase()]}]` : escapeOf(letter, known, ['[', ']']);
-      return part === '.' ? flags & DOTALL ? '[^]' : '[^\\n]' : part === '$' ? end : '(?<';
+      return part === '.' ? flags & DOTALL ? '[^]' : '[^\\n]' : part === '$' ? '(?![^\\n]|\\n[^])' : '(?<';
     });
   }
 
@@ -161,11 +159,8 @@ export const py = (() => {
   class Pattern {
     constructor(text, flags) {
       const isFolded = (flags & IGNORECASE) !== 0 || text.startsWith('(?i)');
-      const made = patternOf(text.replace(/^\(\?i\)/, ''), flags);
-      this.isOfLines = (flags & MULTILINE) !== 0 && made.startsWith('^');
-      this.text = this.isOfLines ? made.slice(1) : made;
-      if (flags & MULTILINE && /(?:^|[^[\\])\^/.test(this.text)) throw new ValueError(`no translation of ${text}`);
-      this.flags = (isFolded ? 'i' : '') + (/\\p\{|[^\0-\u{ffff}]|[\ud800-\udfff]/u.test(made) ? 'u' : '');
+      this.text = patternOf(text.replace(/^\(\?i\)/, ''), flags);
+      this.flags = (isFolded ? 'i' : '') + (/\\p\{|[^\0-\u{ffff}]|[\ud800-\udfff]/u.test(this.text) ? 'u' : '');
       this.made = {};
     }
 
@@ -176,18 +171,7 @@ export const py = (() => {
       return found && new Match(found, found.groups ?? NO_GROUPS);
     }
 
-    /** Tries the pattern where each line begins. */
-    inLines(text, from, to) {
-      let at = from && text.indexOf('\n', from - 1) + 1;
-      for (let isOver = from > 0 && at === 0; !isOver; isOver = at === 0) {
-        const found = this.found(text, at, to, 'y', '');
-        if (found) return found;
-        at = text.indexOf('\n', at) + 1;
-      }
-      return null;
-    }
-
-    search(text, from = 0, to = undefined) { return this.isOfLines ? this.inLines(text, from, to) : this.found(text, from, to, 'g', ''); }
+    search(text, from = 0, to = undefined) { return this.found(text, from, to, 'g', ''); }
     match(text, from = 0, to = undefined) { return this.found(text, from, to, 'y', ''); }
     fullmatch(text) { return this.found(text, 0, undefined, 'y', '$'); }
     * finditer(text, from = 0) {
@@ -197,7 +181,6 @@ export const py = (() => {
     findall(text, from = 0) { return [...this.finditer(text, from)].map(it => it.all[it.all.length > 1 ? 1 : 0]); }
     sub(made, text) {
       if (typeof made === 'function') return this.subBy(made, text);
-      if (this.isOfLines) throw new ValueError(`no translation of ${this.text}`);
       const said = made.replaceAll('$', '$$$$').replace(/\\(?:g<)?([0-9])>?/g, (_, group) => (group === '0' ? '$&' : `$${group}`));
       return text.replace(this.made.all ??= new RegExp(this.text, `g${this.flags}`), said);
     }
@@ -220,9 +203,9 @@ export const py = (() => {
     return compiled.get(key);
   }
 
-
   const re = {
-    IGNORECASE, MULTILINE, DOTALL, ASCII, compile,
+    IGNORECASE, DOTALL, ASCII, compile,
+    get MULTILINE() { throw new ValueError('no translation of re.MULTILINE'); },
     ...Object.fromEntries(['search', 'match', 'fullmatch', 'findall'].map(name => [name, (pattern, text, flags = 0) => compile(pattern, flags)[name](text)])),
     sub: (pattern, made, text) => compile(pattern).sub(made, text),
     escape: text => text.replace(/[\]\\^$.*+?()[{}|/-]/g, '\\$&'),
@@ -340,7 +323,7 @@ export const py = (() => {
     Exception, ValueError, UnicodeError, UnicodeDecodeError, Record, Enum, re, unicodedata, members, iter, list, tuple: list, len, bool, at, sorted, min: utmost(-1), max: utmost(1), range,
     decode, encode, lstrip, rstrip, formatted, isinstance, str, dict, items, set, frozenset: set,
     format: (text, ...given) => text.replace(/\{(\w*)\}/g, (_, name) => (name ? given[name] ?? given[0][name] : given.shift())),
-    percent: (text, given) => { const all = [given].flat(); return text.replace(/%[ds]/g, () => all.shift()); },
+    percent: (one, given) => { if (typeof one === 'number') return one % given; const all = [given].flat(); return one.replace(/%[ds]/g, () => all.shift()); },
     translate: (text, table) => Array.from(text, letter => table.get(letter.codePointAt(0), letter)).join(''),
     record: (kind, given) => new kind(...kind.fields.map(name => given[name])),
     html: { escape: (text, { quote = true } = {}) => text.replace(quote ? /[&<>"']/g : /[&<>]/g, sign => ENTITIES[sign]) },

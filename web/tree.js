@@ -23,19 +23,17 @@ const pathOf = row => [...stepsAbove(row), ...stepsOf(row)].join(' ');
 /** @param {TreeRow} row */
 const isOpenRow = row => Boolean(row.list && !row.list.hidden);
 /**
- * Lists the paths of unfolded rows, from a row on.
- * @param {TreeRow} row
- * @returns {string[]}
+ * Lists rows and the unfolded rows below them, as the page shows them.
+ * @param {TreeRow[]} rows
+ * @returns {TreeRow[]}
  */
-const openPaths = row => (isOpenRow(row) ? [pathOf(row), ...row.below.flatMap(openPaths)] : []);
+const shownRows = rows => rows.flatMap(row => (isOpenRow(row) ? [row, ...shownRows(row.below)] : row));
+/** @param {TreeRow[]} rows */
+const openPaths = rows => shownRows(rows).filter(isOpenRow).map(pathOf);
 /** @param {TreeRow} row @returns {TreeRow} */
 const topOf = row => (row.parent ? topOf(row.parent) : row);
-/**
- * Returns the rows of a list that are drawn.
- * @param {TreeRow[]} rows
- * @param {ListBox} [list]
- */
-const drawnOf = (rows, list) => rows.slice(0, list?.filling.drawn ?? 0);
+/** @param {ListBox} [list] @returns {any[]} what is drawn of a list */
+const drawnOf = list => list?.filling.things.slice(0, list.filling.drawn) ?? [];
 
 /**
  * Says what refutes a try, for its folded row; empty for another row.
@@ -85,13 +83,35 @@ export function sayFound(item) {
 }
 
 /**
- * Makes an element for a list that is drawn a number at a time.
+ * Makes a list whose elements are drawn a number at a time.
  * @param {string} tag
- * @returns {ListBox}
+ * @param {any[]} things
+ * @param {(thing: any) => Element} draw
  */
-function madeList(tag) {
-  const filling = { things: [], draw: () => document.createElement('p'), drawn: 0, most: ROWS_AT_ONCE, more: null };
-  return Object.assign(document.createElement(tag), { filling, drawMore: null });
+function madeList(tag, things, draw) {
+  const box = /** @type {ListBox} */ (document.createElement(tag));
+  box.filling = { things, draw, drawn: 0, most: ROWS_AT_ONCE, more: null };
+  refill(box);
+  return box;
+}
+
+/**
+ * Draws the elements of a list that aren't drawn yet, up to the requested number, and a button for the others.
+ * @param {ListBox} box
+ * @param {number} [added] how many more are requested
+ */
+function refill(box, added = 0) {
+  const { filling } = box;
+  const { things, drawn, draw } = filling;
+  filling.most += added;
+  filling.drawn = Math.min(things.length, filling.most);
+  filling.more?.remove();
+  filling.more = null;
+  for (const thing of things.slice(drawn, filling.drawn)) box.append(draw(thing));
+  if (filling.drawn === things.length) return;
+  filling.more = document.createElement(box.tagName === 'UL' ? 'li' : 'p');
+  filling.more.append(makeButton(say('more', { count: things.length - filling.drawn }), () => refill(box, ROWS_AT_ONCE)));
+  box.append(filling.more);
 }
 
 export class Tree {
@@ -112,7 +132,7 @@ export class Tree {
     this.start = () => new Map();
     /** @type {string[]} the paths of rows that are drawn unfolded */
     this.opened = [];
-    this.list = madeList('div');
+    this.list = madeList('div', [], item => item);
     element('tree').onkeydown = event => this.key(event);
   }
 
@@ -121,7 +141,7 @@ export class Tree {
    * @param {boolean} isWanted
    */
   remember(isWanted) {
-    this.opened = isWanted ? this.groups.flatMap(group => group.rows.flatMap(openPaths)) : [];
+    this.opened = isWanted ? this.groups.flatMap(group => openPaths(group.rows)) : [];
   }
 
   clear() {
@@ -139,9 +159,8 @@ export class Tree {
   draw(items, start, fault) {
     this.clear();
     this.start = start;
-    this.list = madeList('div');
+    this.list = madeList('div', [...items], item => this.drawnItem(item, fault));
     element('tree').append(this.list);
-    this.fill(this.list, [...items], item => this.drawnItem(item, fault));
   }
 
   /**
@@ -154,40 +173,7 @@ export class Tree {
     if (last >= 0) things[last] = items[last];
     for (const item of items.slice(things.length)) things.push(item);
     if (last >= 0 && last < drawn) this.growItem(this.list.children[last], items[last]);
-    this.refill(this.list);
-  }
-
-  /**
-   * Puts a number of a list's elements into a box, and a button for the others.
-   * @param {any} box
-   * @param {any[]} things
-   * @param {(thing: any) => Element} draw
-   */
-  fill(box, things, draw) {
-    box.filling = { things, draw, drawn: 0, most: ROWS_AT_ONCE, more: null };
-    this.refill(box);
-  }
-
-  /**
-   * Draws the elements that aren't drawn yet, up to the requested number.
-   * @param {any} box
-   */
-  refill(box) {
-    const { filling } = box;
-    const { things, drawn, draw } = filling;
-    filling.drawn = Math.min(things.length, filling.most);
-    filling.more?.remove();
-    for (const thing of things.slice(drawn, filling.drawn)) box.append(draw(thing));
-    filling.more = null;
-    box.drawMore = null;
-    if (filling.drawn === things.length) return;
-    box.drawMore = () => {
-      filling.most += ROWS_AT_ONCE;
-      this.refill(box);
-    };
-    filling.more = document.createElement(box.tagName === 'UL' ? 'li' : 'p');
-    filling.more.append(makeButton(say('more', { count: things.length - filling.drawn }), () => box.drawMore()));
-    box.append(filling.more);
+    refill(this.list);
   }
 
   /** @param {Item} item @param {(item: FaultyItem) => Element} fault */
@@ -210,8 +196,7 @@ export class Tree {
 
   /** Marks the drawn items whose problems were changed since. */
   markOld() {
-    const { things, drawn } = this.list.filling;
-    for (let at = 0; at < drawn; at++) this.markBox(this.list.children[at], things[at]);
+    drawnOf(this.list).forEach((item, at) => this.markBox(this.list.children[at], item));
   }
 
   /** @param {any} box @param {Item} item */
@@ -287,13 +272,13 @@ export class Tree {
 
   /** @param {Phase} phase @param {SoundItem} item @param {any} box */
   drawnPhase(phase, item, box) {
-    const list = madeList('ul');
+    /** @type {TreeRow[]} */
+    const rows = [];
+    const list = madeList('ul', rows, row => this.drawnRow(row));
     list.className = 'top';
-    /** @type {Group} */
-    const group = { kind: phase.kind, item, men: this.start(item), rows: [], list, lines: 0, total: madeWith('p', '') };
+    const group = { kind: phase.kind, item, men: this.start(item), rows, list, lines: 0, total: madeWith('p', '') };
     this.groups.push(group);
     box.groups.push(group);
-    this.fill(list, group.rows, row => this.drawnRow(row));
     this.growPhase(group, phase, item);
     return [madeWith('h3', say(phase.kind)), list, group.total];
   }
@@ -311,15 +296,14 @@ export class Tree {
     group.lines = phase.lines.length;
     const last = group.rows.length - 1;
     const from = last < 0 ? 0 : group.rows[last].from;
-    const made = (/** @type {Row[]} */ own, /** @type {Row | null} */ parent) => own.forEach((row, index) => (
-      Object.assign(row, { parent, group, index, siblings: parent ? own : group.rows })));
+    const made = (/** @type {Row[]} */ own, /** @type {Row | null} */ parent) => own.forEach(row => Object.assign(row, { parent, group }));
     const rows = /** @type {TreeRow[]} */ (rowsOf(phase, item.asked.isHelp, { from, made }));
     if (last >= 0 && rows[0].to !== group.rows[last].to) this.replaceRow(group, last, rows[0]);
     for (const row of last < 0 ? rows : rows.slice(1)) {
-      row.index = group.rows.push(row) - 1;
+      group.rows.push(row);
       keepOpen(row, this.opened);
     }
-    this.refill(group.list);
+    refill(group.list);
   }
 
   /**
@@ -335,8 +319,7 @@ export class Tree {
     const steps = isWalked ? [...stepsAbove(current.row), ...stepsOf(current.row).slice(0, current.index + 1)] : [];
     const hasFocus = old.line?.contains(document.activeElement);
     group.rows[index] = row;
-    row.index = index;
-    keepOpen(row, openPaths(old));
+    keepOpen(row, openPaths([old]));
     if (old.line) old.line.replaceWith(this.drawnRow(row));
     if (!isWalked) return;
     this.current = placeIn(row, steps);
@@ -381,9 +364,8 @@ export class Tree {
   fold(row, isOpen) {
     if (!row.hasBelow) return;
     if (isOpen && !row.list) {
-      row.list = madeList('ul');
+      row.list = madeList('ul', row.below, it => this.drawnRow(it));
       row.line?.append(row.list);
-      this.fill(row.list, row.below, it => this.drawnRow(it));
     }
     if (row.list) row.list.hidden = !isOpen;
     if (row.brief) row.brief.hidden = isOpen;
@@ -398,12 +380,12 @@ export class Tree {
    * @param {boolean} isOpen
    */
   foldAll(isOpen) {
-    const waiting = this.groups.flatMap(group => drawnOf(group.rows, group.list));
+    const waiting = this.groups.flatMap(group => drawnOf(group.list));
     let unfolded = 0;
     for (let at = 0; at < waiting.length && unfolded < MOST_UNFOLDED; at++) {
       const row = waiting[at];
       this.fold(row, isOpen);
-      const below = row.list ? drawnOf(row.below, row.list) : [];
+      const below = drawnOf(row.list);
       if (isOpen) unfolded += below.length;
       for (const it of below) waiting.push(it);
     }
@@ -419,7 +401,7 @@ export class Tree {
       this.fold(row.parent, true);
     }
     const list = row.parent ? row.parent.list : row.group.list;
-    while (!row.line && list?.drawMore) list.drawMore();
+    while (!row.line && list?.filling.more) refill(list, ROWS_AT_ONCE);
   }
 
   /**
@@ -484,37 +466,6 @@ export class Tree {
     else this.leave();
   }
 
-  /**
-   * Returns the next shown row below or above, also of another phase or problem.
-   * @param {TreeRow} row
-   * @param {number} step
-   */
-  neighbour(row, step) {
-    if (step > 0 && row.list && !row.list.hidden) return row.below[0];
-    for (let it = /** @type {TreeRow | null} */ (row); it; it = it.parent) {
-      const next = it.siblings[it.index + step];
-      if (next) return step > 0 ? next : this.lastShown(next);
-      if (step < 0) return it.parent ?? this.beside(it.group, step);
-    }
-    return this.beside(row.group, step);
-  }
-
-  /** @param {TreeRow} row */
-  lastShown(row) {
-    let last = row;
-    while (last.list && !last.list.hidden) last = last.below[last.below.length - 1];
-    return last;
-  }
-
-  /** @param {Group} group @param {number} step */
-  beside(group, step) {
-    for (let at = this.groups.indexOf(group) + step; this.groups[at]; at += step) {
-      const { rows } = this.groups[at];
-      if (rows.length) return step > 0 ? rows[0] : this.lastShown(rows[rows.length - 1]);
-    }
-    return null;
-  }
-
   /** @param {KeyboardEvent} event */
   key(event) {
     if (event.ctrlKey || event.metaKey || event.altKey) return;
@@ -522,7 +473,7 @@ export class Tree {
     /** @type {Record<string, () => void>} */
     const acts = {
       ArrowRight: () => this.onward(), ArrowLeft: () => this.backward(), Escape: () => this.leave(),
-      ArrowDown: () => this.step(row, 1), ArrowUp: () => this.step(row, -1),
+      ArrowDown: () => this.step(1), ArrowUp: () => this.step(-1),
       '+': () => row && this.fold(row, true), '-': () => row && this.fold(row, false),
     };
     if (!(event.key in acts)) return;
@@ -530,13 +481,19 @@ export class Tree {
     acts[event.key]();
   }
 
-  /** @param {TreeRow | undefined} row @param {number} step */
-  step(row, step) {
-    if (!row) {
+  /**
+   * Goes to the next shown row below or above, also of another phase or problem.
+   * @param {number} step
+   */
+  step(step) {
+    if (!this.current) {
       this.onward();
       return;
     }
-    const next = this.neighbour(row, step);
+    const shown = this.groups.flatMap(group => shownRows(group.rows));
+    let { row } = this.current;
+    while (row.parent && !shown.includes(row)) row = row.parent;
+    const next = shown[shown.indexOf(row) + step];
     if (next) this.go(next, 0);
   }
 }

@@ -178,7 +178,6 @@ interface BoardPage {
 /** A list of elements that are drawn a number at a time. */
 interface ListBox extends HTMLElement {
   filling: { things: any[]; draw: (thing: any) => Element; drawn: number; most: number; more: HTMLElement | null };
-  drawMore: (() => void) | null;
 }
 /** The element of an item. */
 interface ItemBox extends HTMLElement { groups: Group[]; head: HTMLElement; age: HTMLElement; compared: HTMLDetailsElement }
@@ -192,7 +191,7 @@ interface ComparedCell<T> { rows: T[]; said: string[]; isChanged: boolean }
 interface Comparison<T> { columns: ComparedColumn<T>[]; rows: { label: string; cells: ComparedCell<T>[] }[]; left: number }
 /** A row with its place in the tree, and its elements once they are drawn. */
 interface TreeRow extends Row {
-  readonly below: TreeRow[]; parent: TreeRow | null; group: Group; index: number; siblings: TreeRow[]; wasOpen?: boolean;
+  readonly below: TreeRow[]; parent: TreeRow | null; group: Group; wasOpen?: boolean;
   line?: HTMLElement; list?: ListBox; turn: HTMLElement; buttons: HTMLElement[]; brief?: HTMLElement;
 }
 /** A move of a row. */

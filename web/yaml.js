@@ -5,11 +5,9 @@ import { py } from './python.js';
 
 /** Why a text isn't read. */
 export class YamlError extends py.ValueError {
-  /** @param {string} line the line's text */
-  constructor(line) {
-    super(line);
-    this.line = 1;
-  }
+  line = 1;
+  /** @param {string} said the line's text, or what is wrong */
+  constructor(said) { super(said); }
 }
 
 /** Returns a text of a collection. @param {string} text */
@@ -18,8 +16,8 @@ export const line_of = () => 1;
 // As pops-import has it.
 const MOST_LEVELS = 40;
 
-// A line that ends a document, and one that begins the next.
-const MARK = /^(?:---|\.\.\.\s*$)/;
+// A line that ends a document, or begins the next.
+const MARK = /(?:^|\n)(?:---[^\n]*|\.\.\.[^\S\n]*)(?![^\n])/;
 const KEY = /^("[^"]*"|'[^']*'|[^\s"'[\]{},:#](?:[^:#]*[^\s:#])?)\s*:(?:\s+([^]*))?$/;
 
 /**
@@ -182,20 +180,29 @@ class YamlReader {
   }
 
   /**
+   * Returns the lines from here on that are empty or indented more.
+   * @param {number} indent
+   */
+  below(indent) {
+    let end = this.at;
+    while (this.lines[end] && (!this.lines[end].raw.trim() || this.lines[end].indent > indent)) end++;
+    return this.lines.slice(this.at, end);
+  }
+
+  /**
    * Returns a text without quotes, with the lines below that are indented more.
    * @param {string} text
    * @param {number} indent
    */
   plain(text, indent) {
     const lines = [text];
-    for (let at = this.at; this.lines[at] && (!this.lines[at].raw.trim() || this.lines[at].indent > indent); at++) {
-      const { raw, text: own } = this.lines[at];
+    for (const { raw, text: own } of this.below(indent)) {
       if (raw.trim() && !own) break;
       if (/:(?:\s|$)/.test(own)) throw new YamlError(own);
       lines.push(own);
-      if (own) this.at = at + 1;
     }
     while (!lines[lines.length - 1]) lines.pop();
+    this.at += lines.length - 1;
     return folded(lines, '');
   }
 
@@ -212,10 +219,8 @@ class YamlReader {
 
   /** @param {number} indent */
   block(indent) {
-    const texts = [];
-    for (; this.lines[this.at] && (!this.lines[this.at].raw.trim() || this.lines[this.at].indent > indent); this.at++) {
-      texts.push(this.lines[this.at].raw);
-    }
+    const texts = this.below(indent).map(it => it.raw);
+    this.at += texts.length;
     const first = texts.find(it => it.trim()) ?? '';
     const own = first.length - first.trimStart().length;
     const lines = texts.map(it => it.slice(Math.min(own, it.length - it.trimStart().length)).trimEnd());
@@ -269,46 +274,22 @@ function nodeOfJson(value, level) {
 }
 
 /**
- * Returns what a text of JSON says; undefined for another text.
- * @param {string} text
- */
-function jsonIn(text) {
-  if (!/^\s*[[{]/.test(text)) return undefined;
-  try {
-    return JSON.parse(text);
-  } catch {
-    return undefined;
-  }
-}
-
-/**
  * Returns the documents of a collection in YAML or JSON: each has what it holds as `node`.
  * @param {string} text
  */
 export function documents(text) {
-  const json = jsonIn(text);
-  if (json !== undefined) return [{ line: 1, node: () => nodeOfJson(json, 1) }];
-  const all = parted(text.replaceAll('\r\n', '\n').split('\n')).filter(lines => lines.some(line => !line.startsWith('%') && line.trim()));
-  return all.map(lines => ({ line: 1, node: () => nodeOf(lines.join('\n')) }));
-}
-
-/**
- * Parts lines at the marks between documents.
- * @param {string[]} lines
- */
-function parted(lines) {
-  /** @type {string[][]} */
-  const all = [[]];
-  for (const line of lines) {
-    if (MARK.test(line)) all.push([]);
-    else all[all.length - 1].push(line);
+  try {
+    const json = /^\s*[[{]/.test(text) ? JSON.parse(text) : null;
+    if (json) return [{ line: 1, node: () => nodeOfJson(json, 1) }];
+  } catch {
+    // (it may be YAML)
   }
-  return all;
+  const all = text.replaceAll('\r\n', '\n').split(MARK).map(document => document.split('\n').filter(line => !line.startsWith('%')));
+  return all.filter(lines => lines.some(line => line.trim())).map(lines => ({ line: 1, node: () => nodeOf(lines) }));
 }
 
-/** @param {string} document */
-function nodeOf(document) {
-  const lines = document.split('\n').filter(line => !line.startsWith('%'));
+/** @param {string[]} lines */
+function nodeOf(lines) {
   const reader = new YamlReader(lines.map(raw => ({ indent: raw.length - raw.trimStart().length, text: withoutComment(raw).trim(), raw })));
   const first = reader.line;
   const read = first?.text.startsWith('- ') ? 'list' : 'mapping';

@@ -488,8 +488,18 @@ test('tree: of a report that grows only the lines from the last first move on be
     drawGrowth();
     for (let at = 0; at < first; at++) Object.defineProperty(solutions, at, { value: own[at] });
     assert.equal(shown(), wanted);
-    assert.deepEqual(views.tree.groups[0].rows.map(it => it.index), SQUARES.map((_, at) => at));
-    assert.equal(views.tree.groups[0].rows.every(it => it.siblings === views.tree.groups[0].rows), true);
+    // (the arrows go through all rows, down and up)
+    views.tree.foldAll(false);
+    const { rows } = views.tree.groups[0];
+    assert.equal(rows.length, SQUARES.length);
+    for (const [ordered, step] of [[rows, 1], [[...rows].reverse(), -1]]) {
+      views.tree.go(ordered[0], 0);
+      for (const row of [...ordered.slice(1), ordered.at(-1)]) {
+        views.tree.step(step);
+        assert.equal(views.tree.current.row === row, true);
+      }
+    }
+    views.tree.leave();
   }
 });
 
@@ -543,6 +553,21 @@ test('tree: threats and refutations, by keys and by the switch', () => {
   assert.equal(element('reached').textContent, '1...a7-a5!');
   for (const name of ['ArrowLeft', 'ArrowLeft', 'ArrowLeft']) key(name);
   assert.equal(state.walked, null);
+  leave();
+});
+
+test('tree: from a move that is folded away the arrows go to the rows beside the one that hides it', () => {
+  begin(TWO_MOVES, TRIES);
+  const { tree } = views;
+  const rows = tree.groups.flatMap(it => it.rows);
+  const hiding = rows.findIndex(it => it.hasBelow);
+  for (const [step, wanted] of [[1, rows[hiding + 1]], [-1, rows[hiding - 1]]]) {
+    tree.go(rows[hiding].below[0], 0);
+    tree.fold(rows[hiding], false);
+    const before = tree.current.row;
+    tree.step(step);
+    assert.equal(tree.current.row === (wanted ?? before), true);
+  }
   leave();
 });
 

@@ -76,7 +76,7 @@ function oddTexts() {
 const found = match => match && [match.all[0], ...match.groups()];
 
 test('patterns: the same in JavaScript and Python', () => {
-  const cases = [...made, ...writtenInPlace(), ['^[^\\S\\n]*a$', py.re.MULTILINE], ['.+', 0], ['.+', py.re.DOTALL], ['\\s+$', 0], ['^\\s+', 0], ['\\S+', py.re.ASCII]];
+  const cases = [...made, ...writtenInPlace(), ['(?:^|\\n)[^\\S\\n]*a$', 0], ['.+', 0], ['.+', py.re.DOTALL], ['\\s+$', 0], ['^\\s+', 0], ['\\S+', py.re.ASCII]];
   assert.ok(cases.length > 120);
   const texts = oddTexts();
   const wanted = JSON.parse(execFileSync('python3', ['-c', BY_PYTHON], { input: JSON.stringify([cases, texts]), encoding: 'utf8', maxBuffer: 1 << 28 }));
@@ -95,6 +95,7 @@ test('patterns: lines of odd signs take no time that grows by the square', () =>
 });
 
 test('patterns: an odd sign ends no line', () => {
+  assert.throws(() => py.re.MULTILINE, py.ValueError);
   assert.equal(isOfAnother('Title a\u2028algebraic: b'), false);
   assert.equal(isOfAnother('a\n algebraic: b'), true);
   assert.equal(companions.begins('Remark a\u2028AnfangProblem'), false);

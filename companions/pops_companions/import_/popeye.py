@@ -21,7 +21,7 @@ from pops_companions.import_.sections import take_conditions, take_stipulation, 
 from pops_companions.import_.twins import read_twin
 from pops_companions.import_.words import Message, Unreadable, Word, Words
 
-_FIRST_WORD = re.compile(r"^[^\w\n]*([^\W\d_]+)", re.MULTILINE)
+_FIRST_WORD = re.compile(r"(?:^|\n)[^\w\n]*([^\W\d_]+)")
 _GAME_ARRAY = "rsbqkbsr/pppppppp/8/8/8/8/PPPPPPPP/RSBQKBSR"
 # Where Popeye writes; a file's name may follow.
 _OUTPUTS = ("Protocol", "LaTeX", "LaTeXPieces", "Trace")
