@@ -210,7 +210,7 @@ fn form_text(form: Form) -> &'static [u8]
 {
     match form {
         Form::Direct => b"",
-        Form::Selfmate => b"s",
+        Form::SelfMate => b"s",
         Form::Help | Form::HelpHalf => b"h",
     }
 }
@@ -232,7 +232,7 @@ fn half_text(form: Form) -> &'static [u8]
     ensures short { length result.now ≤ 2 }
 {
     match form {
-        Form::Direct | Form::Selfmate | Form::Help => b"",
+        Form::Direct | Form::SelfMate | Form::Help => b"",
         Form::HelpHalf => b".5",
     }
 }

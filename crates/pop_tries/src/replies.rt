@@ -115,7 +115,7 @@ pub fn is_key_unrefuted<R: Rules>(contest: Contest, board: &mut Board) -> bool
     }
     match contest.battle {
         Battle::Direct => reaches_goal::<R>(contest.stipulation.goal, board),
-        Battle::Selfmate => false,
+        Battle::SelfMate => false,
     }
 }
 
@@ -366,7 +366,7 @@ fn is_refuted_by_stalemate<R: Rules>(contest: Contest, board: &mut Board) -> boo
 {
     match (contest.battle, contest.stipulation.goal) {
         (Battle::Direct, Goal::Mate) => is_stalemate::<R>(board),
-        (Battle::Direct, Goal::Stalemate) | (Battle::Selfmate, _) => false,
+        (Battle::Direct, Goal::Stalemate) | (Battle::SelfMate, _) => false,
     }
 }
 

@@ -5,7 +5,7 @@ ghost use Rattle.chess_core.specs.WellFormed.{IsWellFormed};
 ghost use Rattle.chess_rules.specs.Legal.{is_legal};
 ghost use Rattle.chess_rules.specs.Play.{position_after};
 ghost use Rattle.pop_battle.specs.Chess.{chess};
-ghost use Rattle.pop_stipulation.specs.declared.stipulation.Battle.TheVariants.{Selfmate};
+ghost use Rattle.pop_stipulation.specs.declared.stipulation.Battle.TheVariants.{SelfMate};
 ghost use Rattle.pop_battle.specs.ties.Values.{value};
 
 use crate::mode::Mode;
@@ -21,7 +21,7 @@ use std::mem;
 /// Selfmates keep no killers, and help play has no tests.
 fn wants_guess(battle: Option<Battle>, left: usize) -> bool
     ensures help { battle ≡ None → result ≡ false }
-    ensures selfmate { battle ≡ Some Selfmate → result ≡ false }
+    ensures selfmate { battle ≡ Some SelfMate → result ≡ false }
 {
     battle == Some(Battle::Direct) && left % 2 == 0
 }
@@ -126,7 +126,7 @@ pub(crate) fn guess_killers<R: Rules>(
     requires legal { is_legal R.rule board.now by ≡ true }
     requires few { left ≤ MOST_HALF_MOVES }
     ensures help { mode.battle ≡ None → killers.new ≡ killers.old }
-    ensures selfmate { mode.battle ≡ Some Selfmate → killers.new ≡ killers.old }
+    ensures selfmate { mode.battle ≡ Some SelfMate → killers.new ≡ killers.old }
 {
     if !wants_guess(mode.battle, left) {
         return;

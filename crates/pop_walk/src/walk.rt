@@ -30,7 +30,7 @@ fn fewest_half_moves(battle: Battle) -> usize
 {
     match battle {
         Battle::Direct => 1,
-        Battle::Selfmate => 2,
+        Battle::SelfMate => 2,
     }
 }
 

@@ -1,7 +1,7 @@
 -- What the frames of a walk mean (own).
 use Rattle.pop_walk.specs.Events.{Path}
 pub use Rattle.pop_stipulation.specs.declared.stipulation.Battle.{Battle}
-use Rattle.pop_stipulation.specs.declared.stipulation.Battle.TheVariants.{Direct, Selfmate}
+use Rattle.pop_stipulation.specs.declared.stipulation.Battle.TheVariants.{Direct, SelfMate}
 pub use Rattle.pop_stipulation.specs.declared.stipulation.Goal.TheVariants.{Mate}
 use Rattle.std.specs.Prelude.{◌≡◌, ℕ, zero, suc, ◌+◌, ◌-◌, ◌*◌, ◌/◌, ◌≤◌, ◌<◌, ◌==◌, Bool, true, false, not, ◌&&◌, ◌||◌, if◌then◌else◌, List, [], ◌∷◌, ◌++◌, map, length, filter, Option, Some, None, IfSome, MatchOption, ◌⊎◌}
 use Rattle.std.specs.List.{flat_map}
@@ -29,7 +29,7 @@ pub use Rattle.pop_battle.specs.ties.Marks.{is_for_mate}
 -- the fewest half-moves with which White, to move, can reach the aim
 abbrev pub fewest_half_moves : Battle → ℕ
 fewest_half_moves Direct = 1
-fewest_half_moves Selfmate = 2
+fewest_half_moves SelfMate = 2
 
 module _ {P M : Type 0} where
   -- the first of the n + 1 lengths a, a + 2, .. a + 2n within which White reaches the aim; the last one
