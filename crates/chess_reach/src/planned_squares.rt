@@ -1,7 +1,7 @@
 //! The squares for which there may be a plan.
-ghost use Rattle.std.specs.Prelude.{◌≡◌, ◌+◌, ◌-◌, ◌^◌, ◌<◌, ◌≤◌, false, ◌==◌, ℕ, true, List, Option, IfSome, MatchOption, slice_index_or, ◌⊎◌};
+ghost use Rattle.std.specs.Prelude.{◌≡◌, ◌+◌, ◌-◌, ◌^◌, ◌<◌, ◌≤◌, false, ◌==◌, ℕ, true, List, Option, IfSome, MatchOption, find, is_some, slice_index_or, ◌⊎◌};
 ghost use Rattle.std.specs.Int.{bit_at};
-ghost use Rattle.chess_core.specs.Position.{Position, may_promote, other};
+ghost use Rattle.chess_core.specs.Position.{Position, kinds, other};
 ghost use Rattle.chess_core.specs.WellFormed.{IsWellFormed};
 ghost use Rattle.chess_reach.specs.Plans.{Ends, IsPlan, captures_to};
 ghost use Rattle.chess_core.specs.declared.man.Colour.TheVariants.{White};
@@ -11,7 +11,7 @@ ghost use Rattle.chess_core.specs.declared.man.Man.{Man};
 ghost use Rattle.chess_reach.specs.Reach.{guards};
 ghost use Rattle.chess_reach.specs.ties.Guards.{guard_at, is_blocker};
 ghost use Rattle.chess_reach.specs.ties.Hold.{Captures, Holds, IsApart, IsBegun, IsQuestOf, post_at};
-ghost use Rattle.chess_reach.specs.ties.Ways.{IsChain, is_unfollowed, nowhere};
+ghost use Rattle.chess_reach.specs.ties.Ways.{IsChain, is_unfollowed, may_promote_to_unfollowed, nowhere};
 
 use crate::blocks::{Blocks, all_blockable, blocks_of};
 use crate::guards::{Guard, MEN, list_guards};
@@ -202,14 +202,44 @@ fn may_lure(theirs: usize, prey: Squares, lures: Squares, rest: Squares) -> bool
     theirs != 0 && lures != prey && rest != 0
 }
 
+// Returns whether a promotion to this kind isn't followed.
+fn is_unfollowed(kind: Kind) -> bool
+    ensures { result ≡ is_unfollowed kind }
+{
+    match kind {
+        Kind::King
+        | Kind::Queen
+        | Kind::Rook
+        | Kind::Bishop
+        | Kind::Knight
+        | Kind::Pawn
+        | Kind::Grasshopper => false,
+        _ => true,
+    }
+}
+
+// Returns whether pawns may promote to this kind, and such a promotion isn't followed.
+fn may_promote_to_unfollowed(board: &Board, kind: Kind) -> bool
+    ensures { result ≡ may_promote_to_unfollowed board.now kind }
+{
+    is_unfollowed(kind) && board.may_promote(kind)
+}
+
+// Returns the first kind to which pawns may promote, where such a promotion isn't followed.
+fn unfollowed_promotion(board: &Board) -> Option<Kind>
+    ensures { result ≡ find (may_promote_to_unfollowed board.now) kinds }
+{
+    Kind::all()
+        .iter()
+        .copied()
+        .find(|kind| may_promote_to_unfollowed(board, *kind))
+}
+
 // Returns whether a pawn may promote to a kind whose promotion isn't followed.
 fn may_promote_unfollowed(board: &Board) -> bool
-    ensures none { result ≡ false → (k : Kind) → is_unfollowed k ≡ true
-        → may_promote board.now k ≡ false }
-    ensures some { result ≡ true → (k : Kind) × (is_unfollowed k ≡ true)
-        × (may_promote board.now k ≡ true) }
+    ensures { result ≡ is_some (find (may_promote_to_unfollowed board.now) kinds) }
 {
-    board.may_promote(Kind::Nightrider)
+    unfollowed_promotion(board).is_some()
 }
 
 // Returns the king of this colour on `from` as a guard, with where it can be within each number of moves up to
