@@ -40,10 +40,10 @@ pub enum Goal {
 pub const MOST_MOVES: u8 = 16;
 
 /// The greatest number of half-moves of a play: two for each move.
-pub const MOST_HALF_MOVES: usize = 32;
+pub const MOST_HALF_MOVES: usize = 2 * MOST_MOVES as usize;
 
 /// The most frames of a search: one for each half-move, and one after the last.
-pub const MOST_FRAMES: usize = 33;
+pub const MOST_FRAMES: usize = MOST_HALF_MOVES + 1;
 
 /// A form, a goal and a number of moves: 1 to 16, for `HelpHalf` 0 to 15.
 #[derive(Clone, Copy, Debug)]
