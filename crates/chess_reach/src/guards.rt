@@ -14,7 +14,7 @@ use chess_attacks::words::pop_first;
 use chess_core::{Board, Colour, Kind, Man, Square, Squares};
 
 /// The greatest number of men of the mating side with which plans are searched.
-pub(crate) const MEN: usize = 8;
+pub const MOST_GUARDS: usize = 8;
 
 // The most squares for which it pays to look from each.
 const MOST_LOOKED_FROM: u32 = 4;
@@ -183,7 +183,7 @@ pub(crate) fn list_guards(
     most: usize,
     prey: Squares,
     are_reborn: bool,
-    guards: &mut [Guard; MEN],
+    guards: &mut [Guard; MOST_GUARDS],
 ) -> Option<usize>
     requires { most < MOVES }
     ensures { IfSome result (λ count. AreGuards are_reborn prey board.now.men colour most guards.new count) }
@@ -191,7 +191,7 @@ pub(crate) fn list_guards(
     let mut rest = board.side(colour);
     let mut count = 0;
     while let Some(from) = pop_first(&mut rest) {
-        if count == MEN {
+        if count == MOST_GUARDS {
             return None;
         }
         let Some(man) = board.man_at(from) else {

@@ -48,4 +48,5 @@ mod planned_squares;
 mod ways;
 mod whereabouts;
 
+pub use crate::guards::MOST_GUARDS;
 pub use crate::line_ends::mating_squares;

@@ -14,7 +14,7 @@ ghost use Rattle.chess_reach.specs.ties.Hold.{Captures, Holds, IsApart, IsBegun,
 ghost use Rattle.chess_reach.specs.ties.Ways.{IsChain, is_unfollowed, may_promote_to_unfollowed, nowhere};
 
 use crate::blocks::{Blocks, all_blockable, blocks_of};
-use crate::guards::{Guard, MEN, list_guards};
+use crate::guards::{Guard, MOST_GUARDS, list_guards};
 use crate::hold::{Ending, Post, Posts, Quest, can_hold, can_mate, narrowed};
 use crate::ways::{MOVES, chain_of};
 use crate::whereabouts::Whereabouts;
@@ -33,7 +33,7 @@ fn unheld_squares(king: Square, standing: Squares) -> Squares
 
 // Returns where the guards may end within `most` moves.
 fn first_posts(quest: &Quest, most: usize) -> Posts
-    requires count { quest.now.count ≤ MEN }
+    requires count { quest.now.count ≤ MOST_GUARDS }
     requires moves { most < MOVES }
     ensures { (i : ℕ) → i < quest.now.count
         → post_at result i ≡ record {
@@ -44,7 +44,7 @@ fn first_posts(quest: &Quest, most: usize) -> Posts
     let mut posts = [Post {
         squares: Whereabouts::nowhere(),
         moves: 0,
-    }; MEN];
+    }; MOST_GUARDS];
     for i in 0..quest.count {
         posts[i] = Post {
             squares: quest.guards[i].chain[most],
@@ -57,7 +57,7 @@ fn first_posts(quest: &Quest, most: usize) -> Posts
 // Keeps the mating king apart from the other, and returns the moves that are left of `most`; `None` if it
 // can't get away.
 fn keep_apart(quest: &Quest, posts: &mut Posts, most: usize) -> Option<usize>
-    requires count { quest.now.count ≤ MEN }
+    requires count { quest.now.count ≤ MOST_GUARDS }
     ensures { (men : List (Option Man)) (ends : Ends) (w theirs : ℕ)
         → Holds quest.now men posts.old w most theirs ends → IsApart quest.now ends
         → MatchOption result ⊥ (λ spare. Holds quest.now men posts.new w spare theirs ends) }
@@ -87,7 +87,7 @@ fn keep_apart(quest: &Quest, posts: &mut Posts, most: usize) -> Option<usize>
 // Returns whether there may be a plan in which the king, a guard of its own square here, ends on the
 // quest's square, and captured men make at least `captured` moves.
 fn may_have_plan(quest: &Quest, king: &Guard, ours: usize, theirs: usize, captured: usize) -> bool
-    requires count { quest.now.count ≤ MEN }
+    requires count { quest.now.count ≤ MOST_GUARDS }
     requires moves { ours < MOVES }
     requires captured { captured ≤ theirs }
     ensures { (prey : ℕ) (p : Position) (ends : Ends)
@@ -108,7 +108,14 @@ fn may_have_plan(quest: &Quest, king: &Guard, ours: usize, theirs: usize, captur
     let moves = theirs - captured - steps;
     match quest.ending.goal {
         Goal::Mate => can_mate(quest, &posts, unheld, spare, moves),
-        Goal::Stalemate => can_hold(quest, &posts, &[Squares::MAX; MEN], unheld, spare, moves),
+        Goal::Stalemate => can_hold(
+            quest,
+            &posts,
+            &[Squares::MAX; MOST_GUARDS],
+            unheld,
+            spare,
+            moves,
+        ),
     }
 }
 
@@ -169,7 +176,7 @@ fn planned_part(
     theirs: usize,
     captured: usize,
 ) -> Squares
-    requires count { quest.old.count ≤ MEN }
+    requires count { quest.old.count ≤ MOST_GUARDS }
     requires moves { ours < MOVES }
     requires captured { captured ≤ theirs }
     ensures planned { (prey : ℕ) (p : Position) (k : ℕ) (ends : Ends)
@@ -328,7 +335,7 @@ pub(crate) fn planned_squares(
         colour: mating,
         king: from,
         count: 0,
-        guards: [Guard::unused(); MEN],
+        guards: [Guard::unused(); MOST_GUARDS],
         blockable,
     };
     match planned_near(board, &mut quest, &king, near, ours, theirs) {
