@@ -131,7 +131,7 @@ fn checking(
 }
 
 impl Quest {
-    // Takes another square as the king's.
+    // Replaces the king's square.
     #[inline(always)]
     pub(crate) fn seek(&mut self, king: Square)
         ensures { self.new ≡ record self.old { king = king } }

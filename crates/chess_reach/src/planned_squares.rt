@@ -84,8 +84,8 @@ fn keep_apart(quest: &Quest, posts: &mut Posts, most: usize) -> Option<usize>
     Some(spare)
 }
 
-// Returns whether there may be a plan in which the king, a guard of its own square here, ends on the
-// quest's square, and captured men make at least `captured` moves.
+// Returns whether there may be a plan in which the king, described as a `Guard`, ends on the quest's square,
+// and captured men make at least `captured` moves.
 fn may_have_plan(quest: &Quest, king: &Guard, ours: usize, theirs: usize, captured: usize) -> bool
     requires count { quest.now.count ≤ MOST_GUARDS }
     requires moves { ours < MOVES }
