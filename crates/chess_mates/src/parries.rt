@@ -161,7 +161,8 @@ fn parries_between(
     king: Square,
     unpinned: Squares,
 ) -> Parries
-    ensures { (men : List (Option Man)) → DescribesMen board.now.men men (other board.now.turn) occupancy
+    ensures { (men : List (Option Man))
+        → DescribesMen board.now.men men (other board.now.turn) occupancy
         → unpinned ≡ word (is_unpinned board.now m king)
         → IsKnownBetween men board.now man m king result }
 {

@@ -125,7 +125,8 @@ impl Guard {
     ) -> Whereabouts
         ensures guarded { (j : Kind) (s : ℕ) → s < 64 → CanBe self.now.kind j → s ≢ king
             → guards colour j s square ≡ true → has self.now.kind j s result ≡ true }
-        ensures defended { (j : Kind) (h : ℕ) → CanBe self.now.kind j → are_reborn ≡ true → h ≢ square
+        ensures defended { (j : Kind) (h : ℕ) → CanBe self.now.kind j → are_reborn ≡ true
+            → h ≢ square
             → rebirth colour j square ≡ Some h → guards colour j h square ≡ true
             → has self.now.kind j square result ≡ true }
     {
@@ -186,7 +187,8 @@ pub(crate) fn list_guards(
     guards: &mut [Guard; MOST_GUARDS],
 ) -> Option<usize>
     requires { most < MOVES }
-    ensures { IfSome result (λ count. AreGuards are_reborn prey board.now.men colour most guards.new count) }
+    ensures { IfSome result
+        (λ count. AreGuards are_reborn prey board.now.men colour most guards.new count) }
 {
     let mut rest = board.side(colour);
     let mut count = 0;

@@ -112,7 +112,8 @@ fn checking(
 ) -> Option<Post>
     ensures within { IfSome result (λ p. (post.now.moves ≤ p.moves)
         × (p.moves ≤ post.now.moves + spare)) }
-    ensures kept { (e : End) → CanEnd guard.now e → StaysAway quest.now.ending.are_reborn guard.now e
+    ensures kept { (e : End) → CanEnd guard.now e
+        → StaysAway quest.now.ending.are_reborn guard.now e
         → post.now.moves ≤ e.moves
         → e.moves ≤ post.now.moves + spare → has guard.now.kind e.kind e.square squares.now ≡ true
         → Arrives quest.now.ending.standing_checks e

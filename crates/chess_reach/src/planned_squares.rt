@@ -84,8 +84,8 @@ fn keep_apart(quest: &Quest, posts: &mut Posts, most: usize) -> Option<usize>
     Some(spare)
 }
 
-// Returns whether there may be a plan in which the king, described as a `Guard`, ends on the quest's square,
-// and captured men make at least `captured` moves.
+// Returns whether there may be a plan in which the king, described as a `Guard`, ends on the quest's
+// square, and captured men make at least `captured` moves.
 fn may_have_plan(quest: &Quest, king: &Guard, ours: usize, theirs: usize, captured: usize) -> bool
     requires count { quest.now.count ≤ MOST_GUARDS }
     requires moves { ours < MOVES }
@@ -314,7 +314,8 @@ pub(crate) fn planned_squares(
 ) -> Squares
     requires { IsWellFormed board.now }
     ensures { (k : ℕ) (ends : Ends) → k < 64
-        → IsPlan ending.goal ending.standing_checks ending.are_reborn board.now mating ours theirs k ends
+        → IsPlan ending.goal ending.standing_checks ending.are_reborn board.now mating
+        ours theirs k ends
         → (bit_at squares k == 1) ≡ true → (bit_at result k == 1) ≡ true }
 {
     if ours >= MOVES - 1 || theirs >= MOVES || may_promote_unfollowed(board) {

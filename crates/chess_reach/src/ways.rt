@@ -103,9 +103,9 @@ fn spread_each(colour: Colour, kind: Kind, squares: Squares) -> Squares
     reached
 }
 
-// Returns the number of squares from which on such men are assumed to reach every square. A rook or queen on
-// more than eight squares has moved already. Another man that got from one square to more than 40 gets to at
-// least 56 with its next move.
+// Returns the number of squares from which on such men are assumed to reach every square. A rook or queen
+// on more than eight squares has moved already. Another man that got from one square to more than 40 gets
+// to at least 56 with its next move.
 #[inline(always)]
 fn enough_squares(kind: Kind) -> u32 {
     match kind {
@@ -349,7 +349,8 @@ fn promoted_homes(colour: Colour, squares: Squares) -> Squares
 
 // Returns the squares, and those on which the man is reborn that is captured on them.
 fn with_homes(man: Man, at: Whereabouts) -> Whereabouts
-    ensures kept { (j : Kind) (t : ℕ) → has man.kind j t at ≡ true → has man.kind j t result ≡ true }
+    ensures kept { (j : Kind) (t : ℕ) → has man.kind j t at ≡ true
+        → has man.kind j t result ≡ true }
     ensures reborn { (are_reborn : Bool) → Rests are_reborn man at result }
 {
     let own = homes(man.colour, man.kind, at.unpromoted);

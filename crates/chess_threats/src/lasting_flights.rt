@@ -200,8 +200,9 @@ pub(crate) struct LeavesOne {
 impl ForKind<Squares> for LeavesOne {
     type Out = bool;
 
-    ghost holds = { λ l k targets yes. yes ≡ true → (t : ℕ) → t < 64 → (bit_at targets t == 1) ≡ true
-        → (f : ℕ) × IsLeft l.squares (record { colour = l.colour; kind = k }) t f };
+    ghost holds = { λ l k targets yes. yes ≡ true → (t : ℕ) → t < 64
+        → (bit_at targets t == 1) ≡ true → (f : ℕ)
+        × IsLeft l.squares (record { colour = l.colour; kind = k }) t f };
 
     #[inline(always)]
     fn of(&self, kind: Kind, targets: Squares) -> bool {

@@ -123,7 +123,8 @@ fn reports_steps(king_attack: &KingAttack) -> bool
 // Returns the squares next to the king; in Circe only the empty ones.
 #[tactic(auto, using(chess_attacks::proofs::Bits::word_has))]
 fn plain_squares<R: Rules>(king_attack: &KingAttack) -> Squares
-    ensures { (t : ℕ) → t < 64 → (bit_at result t == 1) ≡ true → IsPlainStep R.rule king_attack.now t }
+    ensures { (t : ℕ) → t < 64 → (bit_at result t == 1) ≡ true
+        → IsPlainStep R.rule king_attack.now t }
 {
     let near = king_leaps(king_attack.king);
     if R::captures_are_reborn() {

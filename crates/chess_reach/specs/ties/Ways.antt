@@ -76,8 +76,10 @@ pub record Rests (rb : Bool) (x : Man) (v w : Whereabouts) : Type 0 where
 
 -- within n moves, at most m, the man gets from s only to where the n-th of the chain has it; later ones
 -- have it too
-pub record IsChain (rb : Bool) (prey : ℕ) (x : Man) (s m : ℕ) (chain : List Whereabouts) : Type 0 where
-  pub gets : (allowed : Kind → Bool) (takes : ℕ → Bool) (n : ℕ) (j : Kind) (t : ℕ) → TakesOn takes prey
+pub record IsChain (rb : Bool) (prey : ℕ) (x : Man) (s m : ℕ)
+    (chain : List Whereabouts) : Type 0 where
+  pub gets : (allowed : Kind → Bool) (takes : ℕ → Bool) (n : ℕ) (j : Kind) (t : ℕ)
+      → TakesOn takes prey
       → n ≤ m → IsUsual allowed → Gets rb allowed takes x.colour n x.kind s j t
       → has x.kind j t (slice_index_or chain n nowhere) ≡ true
   pub grows : (n l : ℕ) (j : Kind) (t : ℕ) → n ≤ l → l ≤ m → t < 64
