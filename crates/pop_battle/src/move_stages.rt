@@ -156,7 +156,7 @@ fn move_stage_after<R: Rules>(order: Order, move_stage: MoveStage) -> Option<Mov
     }
 }
 
-/// Returns the cursor before the first move of a stage. If both killers are one move, the second killer's
+/// Returns the place before the first move of a stage. If both killers are one move, the second killer's
 /// stage is empty.
 #[tactic(auto, using(crate::proofs::Orders::first_place), unfolding(crate::specs::ties::Frames::moves_here))]
 pub(crate) fn place_before<R: Rules>(order: Order, move_stage: MoveStage) -> MovePlace

@@ -80,8 +80,8 @@ pub struct First {
     pub firsts: Firsts,
     pub by: Move,
     pub undo: Undo,
-    /// The length of White's threats: the least number of half-moves within which they win. `None` if White
-    /// threatens nothing, or before the step at `Faced` has looked for threats.
+    /// What is known of White's threats. `None` if White threatens nothing, or before the step at `Faced` has
+    /// looked for threats.
     pub threat: Option<Threat>,
     /// What is known of the replies that refute.
     pub refuting: Refuting,

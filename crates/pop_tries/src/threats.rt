@@ -33,7 +33,7 @@ use pop_walk::walk::walk_length;
 pub struct Threat {
     /// The least number of half-moves within which they win.
     pub length: usize,
-    /// Holds them.
+    /// A set that holds the threats.
     pub moves: MoveSet,
     /// Where they are in the order of moves, if they are few.
     pub places: FewPlaces,

@@ -20,13 +20,13 @@ use pop_stipulation::Goal;
 /// it saves.
 const FEWEST_COMPUTED: usize = 3;
 
-/// The most men of the mating side with which it does.
+/// The most men of the mating side with which the walk computes where lines can end.
 const MOST_COMPUTED: u32 = 8;
 
-/// The most where captured men are reborn, so that more squares stay in reach.
+/// The most such men in Circe, where captured men are reborn, so that more squares stay in reach.
 const MOST_COMPUTED_REBORN: u32 = 3;
 
-/// Returns what is known of the lines that reach this goal: that they end on some square, if nothing is.
+/// Returns where lines to this goal can end: on every square if nothing is known.
 fn line_ends_or_all(goal: Goal, line_ends: Option<LineEnds>) -> LineEnds
     ensures goal { result.goal ≡ goal }
     ensures line_ends { (line_ends ≡ Some result) ⊎ (result.squares ≡ 2 ^ 64 - 1) }
