@@ -14,7 +14,7 @@ use std::marker::Model;
 
 /// The parts of a phase that are still to come. Contracts see the record `RemainingSeen`.
 #[derive(Drop)]
-pub struct RemainingParts<R: Rules, const N: usize> {
+pub(crate) struct RemainingParts<R: Rules, const N: usize> {
     problem: Problem,
     phase: Phase,
     depth: usize,

@@ -9,8 +9,7 @@ use crate::progress::{Step, Task, TriesProgress};
 use chess_rules::{MovePlace, Rules};
 use pop_battle::Frame;
 use pop_events::{Event, Phase, TryEvent};
-use pop_walk::mode::Mode;
-use pop_walk::phases::{Progress, Scope, Walk, advance, phase_half_moves, set_up};
+use pop_walk::phases::{Progress, Scope, Walk, advance, set_up};
 
 /// Begins set play, or finds that it isn't possible.
 #[tactic(auto, unfolding(crate::specs::ties::Searching::HoldsAt, crate::specs::ties::Searching::rank))]
@@ -26,19 +25,13 @@ pub(crate) fn begin_set_play<R: Rules, const N: usize>(task: &Task, desk: &mut D
             event,
         };
     }
-    let left = phase_half_moves(&task.problem, phase);
+    let walk = Walk::of(&task.problem, phase, Scope::Part);
     desk.frames.push(Frame {
         place: MovePlace::start(),
-        left,
+        left: walk.half_moves,
         cursor: None,
         ..Frame::default()
     });
-    let walk = Walk {
-        phase,
-        mode: Mode::of(&task.problem),
-        half_moves: left,
-        scope: Scope::Part,
-    };
     Step {
         progress: TriesProgress::InSetPlay {
             progress: Progress::Within { walk, count: 0 },

@@ -9,6 +9,7 @@ ghost use Rattle.pop_walk.specs.ties.Walk.{AreEndsAfter, IsKingOff, IsWellFormed
 
 use crate::mode::Mode;
 use arrayvec::ArrayVec;
+use chess_attacks::words::contains;
 use chess_core::{Board, Move, Squares};
 use chess_flights::attackers::has_fairy_promotions;
 use chess_reach::mating_squares;
@@ -51,7 +52,7 @@ fn ends_off<R: Rules>(squares: Squares, by: Move, board: &Board) -> bool
         return false;
     };
     let end = if by.from == king { by.to } else { king };
-    squares >> end.index() & 1 == 0
+    !contains(squares, end)
 }
 
 /// Returns the part of `squares` on which lines can still end after a legal move of help play, with `left`

@@ -1,6 +1,6 @@
 -- What contracts see of a search of one part and of the parts still to come, and how many positions a
 -- part's walk has (own).
-use Rattle.std.specs.Prelude.{◌≡◌, ℕ, ◌-◌, ◌==◌, Bool, true, false, ◌&&◌, List, [], ◌∷◌, length}
+use Rattle.std.specs.Prelude.{◌≡◌, ℕ, ◌-◌, Bool, true, false, ◌&&◌, List, [], ◌∷◌, length}
 use Rattle.chess_core.specs.Position.{Position}
 use Rattle.chess_rules.specs.Legal.{is_legal, moves as legal_moves}
 use Rattle.chess_rules.specs.Play.{position_after}
