@@ -86,7 +86,7 @@ pub(crate) fn is_refutation<R: Rules, const N: usize>(
     contest: Contest,
     refuting: Refuting,
     by: Move,
-    place: u16,
+    place: MovePlace,
     desk: &mut Desk<R, N>,
 ) -> bool
     requires ready { IsReady contest desk.old N }
@@ -96,7 +96,7 @@ pub(crate) fn is_refutation<R: Rules, const N: usize>(
     ensures refutes { result ≡ refutes R.rule contest desk.old.board by }
     ensures rest { Keeps desk.old desk.new }
 {
-    if place == refuting.last {
+    if place.is(refuting.last) {
         return true;
     }
     if !refuting.moves.may_hold(by) {
@@ -140,8 +140,8 @@ pub(crate) struct Tally {
     pub most: u32,
     /// Holds the refutations that were counted.
     pub refuting: MoveSet,
-    /// The place of the one that was counted last; 0 if there is none.
-    pub last: u16,
+    /// The place of the one that was counted last; the start if there is none.
+    pub last: MovePlace,
 }
 
 impl Tally {
@@ -262,7 +262,7 @@ fn count_among<R: Rules, const N: usize>(
         if refutes_among::<R, N>(contest, counted, by, desk) {
             count += 1;
             refuting = refuting.with(by);
-            last = place.number();
+            last = place;
             desk.search_state.killers.put(left, place);
             if count > tally.most {
                 return Tally {
@@ -303,7 +303,7 @@ pub(crate) fn count_refutations<R: Rules, const N: usize>(
         count: 0,
         most,
         refuting: MoveSet::none(),
-        last: 0,
+        last: MovePlace::start(),
     };
     if contest.stipulation.half_moves() < 5 {
         return count_among::<R, N>(contest, Counted::All, none, desk);
