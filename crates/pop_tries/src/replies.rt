@@ -22,6 +22,12 @@ use pop_battle::chess::{next_move, reaches_goal};
 use pop_battle::value_of;
 use pop_stipulation::{Battle, Goal};
 
+/// The fewest half-moves of a contest with two moves after a reply: from there on forcing replies are counted first.
+const FEWEST_FORCING_FIRST: usize = 5;
+
+/// The half-moves of a contest with one move after a reply.
+const ONE_MOVE_AFTER_A_REPLY: usize = 3;
+
 /// Returns whether the first move that led to the board's position is a key.
 #[tactic(auto, using(crate::proofs::Contests::key_by_value))]
 pub(crate) fn is_key<R: Rules, const N: usize>(contest: Contest, desk: &mut Desk<R, N>) -> bool
@@ -305,7 +311,7 @@ pub(crate) fn count_refutations<R: Rules, const N: usize>(
         refuting: MoveSet::none(),
         last: MovePlace::start(),
     };
-    if contest.stipulation.half_moves() < 5 {
+    if contest.stipulation.half_moves() < FEWEST_FORCING_FIRST {
         return count_among::<R, N>(contest, Counted::All, none, desk);
     }
     let some = count_among::<R, N>(contest, Counted::Forcing, none, desk);
@@ -334,7 +340,7 @@ fn refutes_at<R: Rules, const N: usize>(
 }
 
 /// Returns whether the last two replies that refuted other first moves refute this one too, which led to the
-/// board's position. `false` says nothing. It tests them only if one refutation is allowed and one move is left
+/// board's position. `false` proves nothing. It tests them only if one refutation is allowed and one move is left
 /// after the reply: with more moves left, forcing replies cost less.
 #[tactic(auto, using(crate::proofs::Counts::two_refute))]
 pub(crate) fn are_two_refutations<R: Rules, const N: usize>(
@@ -348,7 +354,7 @@ pub(crate) fn are_two_refutations<R: Rules, const N: usize>(
         contest.stipulation.n desk.old.board) }
     ensures rest { Keeps desk.old desk.new }
 {
-    if most != 1 || contest.stipulation.half_moves() != 3 {
+    if most != 1 || contest.stipulation.half_moves() != ONE_MOVE_AFTER_A_REPLY {
         return false;
     }
     let left = half_moves_of_replies(contest);
