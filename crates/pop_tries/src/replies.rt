@@ -340,7 +340,7 @@ fn refutes_at<R: Rules, const N: usize>(
 }
 
 /// Returns whether the last two replies that refuted other first moves refute this one too, which led to the
-/// board's position. `false` proves nothing. It tests them only if one refutation is allowed and one move is left
+/// board's position. `false` says nothing. It tests them only if one refutation is allowed and one move is left
 /// after the reply: with more moves left, forcing replies cost less.
 #[tactic(auto, using(crate::proofs::Counts::two_refute))]
 pub(crate) fn are_two_refutations<R: Rules, const N: usize>(
