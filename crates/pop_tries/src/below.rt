@@ -8,7 +8,7 @@ ghost use Rattle.pop_tries.specs.ties.Starts.{ShowsBelow, ShowsNext};
 
 use crate::desk::Desk;
 use chess_core::Board;
-use chess_rules::{MovePlace, Rules};
+use chess_rules::Rules;
 use pop_battle::Frame;
 use pop_events::Shown;
 use pop_input::MOST_FRAMES;
@@ -39,9 +39,7 @@ pub(crate) fn open_walk<R: Rules, const N: usize>(
         &mut desk.search_state,
     );
     desk.frames.push(Frame {
-        place: MovePlace::start(),
         left,
-        cursor: None,
         ..Frame::default()
     });
 }

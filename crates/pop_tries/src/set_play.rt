@@ -6,7 +6,7 @@ ghost use Rattle.pop_tries.specs.ties.Searching.{Goes, HoldsAt, MayStep};
 use crate::desk::Desk;
 use crate::group::beginning_of_keys;
 use crate::progress::{Step, Task, TriesProgress};
-use chess_rules::{MovePlace, Rules};
+use chess_rules::Rules;
 use pop_battle::Frame;
 use pop_events::{Event, Phase, TryEvent};
 use pop_walk::phases::{Progress, Scope, Walk, advance, set_up};
@@ -27,9 +27,7 @@ pub(crate) fn begin_set_play<R: Rules, const N: usize>(task: &Task, desk: &mut D
     }
     let walk = Walk::of(&task.problem, phase, Scope::Part);
     desk.frames.push(Frame {
-        place: MovePlace::start(),
         left: walk.half_moves,
-        cursor: None,
         ..Frame::default()
     });
     Step {
