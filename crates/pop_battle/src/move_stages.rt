@@ -74,7 +74,8 @@ fn next_of_move_stage<R: Rules>(
     requires well_formed { IsWellFormed board.old }
     requires place { IsPlaceIn R.rule board.old cursor.old }
     ensures { Finds R.rule board.old board.new (Some cursor.new) result
-        (filter (belongs board.old order move_stage) (moves_after R.rule board.old cursor.old.place))
+        (filter (belongs board.old order move_stage)
+        (moves_after R.rule board.old cursor.old.place))
         (filter (belongs board.old order move_stage)
         (moves_after R.rule board.old cursor.new.place)) }
 {

@@ -212,7 +212,8 @@ impl<const N: usize> LineBuffer<N> {
 
     // Adds a move of battle play, after `blanks` blanks and before the line's ending.
     fn add_node(&mut self, blanks: u64, half: u32, shown: &Shown, ending: &[u8])
-        requires { length self.old + blanks + LONGEST_PREFIX + LONGEST_MOVE + length ending.now ≤ N }
+        requires { length self.old + blanks + LONGEST_PREFIX + LONGEST_MOVE
+            + length ending.now ≤ N }
         ensures { self.new ≡ self.old ++ (replicate blanks blank ++ prefix_text half
             ++ move_text shown.now ++ ending.now) }
     {
