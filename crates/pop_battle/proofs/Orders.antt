@@ -100,5 +100,5 @@ aimed_filtered p order early (m ∷ ms) = search (rules, aimed_filtered p order 
 -- for `place_before`: what is ahead at the start of each stage
 pub ruleset first_place = (before_killer, before_earlier, after_earlier, after_start)
 
--- for `move_stage_after`: what is ahead after each stage
-pub ruleset next_move_stage = (later_aimed, append-nil)
+-- for `stage_after`: what is ahead after each stage
+pub ruleset next_stage = (later_aimed, append-nil)
