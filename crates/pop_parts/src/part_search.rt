@@ -14,19 +14,22 @@ use pop_walk::phases::{Progress, advance};
 use std::marker::Model;
 
 /// Returns the moves that lead to the top frame, followed by `by`.
-fn front_of<R: Rules, const N: usize>(frames: &ArrayVec<Frame<R>, N>, by: Move) -> ArrayVec<Move, N>
+fn beginning_of<R: Rules, const N: usize>(
+    frames: &ArrayVec<Frame<R>, N>,
+    by: Move,
+) -> ArrayVec<Move, N>
     requires open { 0 < array_vec_len frames.now }
     ensures { result.items ≡ path (reverse frames.now.items) ++ by ∷ [] }
 {
-    let mut front = ArrayVec::new();
+    let mut beginning = ArrayVec::new();
     let mut k = 1;
     while k < frames.len() {
         let frame = &frames[k];
-        front.push(frame.by);
+        beginning.push(frame.by);
         k += 1;
     }
-    front.push(by);
-    front
+    beginning.push(by);
+    beginning
 }
 
 /// A search for the solutions of one part of a phase, the solutions that begin with the part's first
@@ -36,7 +39,7 @@ fn front_of<R: Rules, const N: usize>(frames: &ArrayVec<Frame<R>, N>, by: Move) 
 pub(crate) struct PartSearch<R: Rules, const N: usize> {
     problem: Problem,
     phase: Phase,
-    front: ArrayVec<Move, N>,
+    beginning: ArrayVec<Move, N>,
     progress: Progress,
     board: Board,
     frames: ArrayVec<Frame<R>, N>,
@@ -56,7 +59,7 @@ impl<R: Rules, const N: usize> Model for PartSearch<R, N> {
     ghost view = { λ s. record {
       problem = s.problem;
       phase = s.phase;
-      front = s.front.items;
+      beginning = s.beginning.items;
       left = left_of R.rule s.problem s.progress (reverse s.frames.items);
       board = s.board;
       depth = array_vec_len s.frames;
@@ -99,12 +102,12 @@ impl<R: Rules, const N: usize> PartSearch<R, N> {
             × (array_vec_len frames ≡ d) }
         requires legal { is_legal R.rule board by ≡ true }
         requires battle { is_help problem.now.stipulation.form ≡ false → array_vec_len frames ≡ 1 }
-        ensures front { result.front ≡ path (reverse frames.items) ++ by ∷ [] }
+        ensures beginning { result.beginning ≡ path (reverse frames.items) ++ by ∷ [] }
         ensures problem { result.problem ≡ problem.now }
         ensures phase { result.phase ≡ phase }
-        ensures left { result.left ≡ part_events R.rule problem.now phase result.front }
+        ensures left { result.left ≡ part_events R.rule problem.now phase result.beginning }
     {
-        let front = front_of::<R, N>(&frames, by);
+        let beginning = beginning_of::<R, N>(&frames, by);
         let mut search_state = SearchState::with(killers);
         let progress = begin_after::<R, N>(
             problem,
@@ -117,7 +120,7 @@ impl<R: Rules, const N: usize> PartSearch<R, N> {
         PartSearch {
             problem: *problem,
             phase,
-            front,
+            beginning,
             progress,
             board,
             frames,
@@ -136,7 +139,7 @@ impl<R: Rules, const N: usize> PartSearch<R, N> {
             (λ bare. IsAtPathOf R.rule self.old.problem bare self.new.board self.new.depth) }
         ensures problem { self.new.problem ≡ self.old.problem }
         ensures phase { self.new.phase ≡ self.old.phase }
-        ensures front { self.new.front ≡ self.old.front }
+        ensures beginning { self.new.beginning ≡ self.old.beginning }
     {
         let mut event = None;
         advance::<R, N, true>(

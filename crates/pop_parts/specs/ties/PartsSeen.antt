@@ -14,7 +14,7 @@ use Rattle.pop_battle.specs.declared.killers.Killers.{Killers}
 pub record PartSeen : Type 0 where
   pub problem : Posed
   pub phase : Phase
-  pub front : Path
+  pub beginning : Path
   pub left : List BareEvent
   pub board : Position
   pub depth : ℕ
