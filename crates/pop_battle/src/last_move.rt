@@ -49,7 +49,7 @@ fn forces_mate<R: Rules>(
 /// Returns the next legal move after the cursor, and skips moves after which the filter finds a quiet step
 /// of Black's king. Adds the number of skipped moves to `counted`.
 #[tactic(auto, using(crate::proofs::Skipping::with_filter, crate::proofs::Skipping::without_filter))]
-fn next_unquiet<R: Rules>(
+fn next_without_quiet_step<R: Rules>(
     steps: &mut QuietSteps,
     cursor: &mut LegalCursor<R>,
     board: &mut Board,
@@ -90,7 +90,7 @@ fn some_forces_mate<R: Rules>(
         board.old (moves_after R.rule board.old cursor.place)) }
 {
     let mut steps = QuietSteps::of(board);
-    while let Some(by) = next_unquiet::<R>(&mut steps, &mut cursor, board, counted) {
+    while let Some(by) = next_without_quiet_step::<R>(&mut steps, &mut cursor, board, counted) {
         *counted = counted.saturating_add(1);
         if forces_mate::<R>(steps, by, board, threats) {
             return true;

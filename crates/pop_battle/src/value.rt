@@ -179,7 +179,8 @@ fn descend<R: Rules, const N: usize>(
         (λ _. search_state.new.opened ≤ search_state.old.opened + walk_count (legal_moves R.rule)
         (position_after R.rule)
         (top.left - 1) (position_after R.rule board.old by)) }
-    ensures tried { MatchOption result (HasCounted search_state.old.opened search_state.new.opened 1)
+    ensures tried { MatchOption result
+        (HasCounted search_state.old.opened search_state.new.opened 1)
         (λ _. HasCounted search_state.old.opened search_state.new.opened
         (smallest_tree aim.battle (chess aim.goal R.rule) (top.left - 1)
         (position_after R.rule board.old by))) }

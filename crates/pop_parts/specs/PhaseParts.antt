@@ -1,6 +1,6 @@
 -- The parts of a phase: its solutions divided by their first moves, so that each part can be searched by
 -- itself, on any machine (own).
-use Rattle.std.specs.Prelude.{ℕ, zero, suc, ◌-◌, ◌==◌, min, Bool, true, false, ◌&&◌, ◌||◌, if◌then◌else◌, List, [], ◌∷◌, ◌++◌, map, take, filter, length, Option, None, slice_get}
+use Rattle.std.specs.Prelude.{ℕ, zero, suc, ◌==◌, min, Bool, true, false, ◌&&◌, ◌||◌, if◌then◌else◌, List, [], ◌∷◌, ◌++◌, map, take, filter, length}
 use Rattle.std.specs.List.{flat_map}
 use Rattle.chess_core.specs.Move.{same_move}
 use Rattle.chess_attacks.specs.RuleSet.{RuleSet}
@@ -32,36 +32,31 @@ parts rule problem phase depth =
     else beginnings (chess problem.stipulation.goal rule) (part_depth problem phase depth)
     (phase_start problem phase)
 
--- the part with a number, counted from 1
-abbrev pub part_numbered : RuleSet → Posed → Phase → ℕ → ℕ → Option Path
-part_numbered rule problem phase depth number =
-    if number == 0 then None else slice_get (parts rule problem phase depth) (number - 1)
-
 -- the path begins with these moves
 unfoldable pub begins_path : Path → Path → Bool
 begins_path [] path = true
-begins_path (m ∷ front) [] = false
-begins_path (m ∷ front) (n ∷ path) = same_move m n && begins_path front path
+begins_path (m ∷ beginning) [] = false
+begins_path (m ∷ beginning) (n ∷ path) = same_move m n && begins_path beginning path
 
 -- the solution's first path begins with these moves
 abbrev pub begins_so : Path → Solution → Bool
-begins_so front [] = false
-begins_so front (path ∷ paths) = begins_path front path
+begins_so beginning [] = false
+begins_so beginning (path ∷ paths) = begins_path beginning path
 
 -- the solutions of a part: the solutions of its phase that begin with its first moves
 unfoldable pub part_solutions : RuleSet → Posed → Phase → Path → List Solution
-part_solutions rule problem phase front =
-    filter (begins_so front) (solutions rule problem phase)
+part_solutions rule problem phase beginning =
+    filter (begins_so beginning) (solutions rule problem phase)
 
 -- the number of a part's solutions, up to the limit
 abbrev pub part_count : RuleSet → Posed → Phase → Path → ℕ
-part_count rule problem phase front =
-    length (take problem.max_solutions (part_solutions rule problem phase front))
+part_count rule problem phase beginning =
+    length (take problem.max_solutions (part_solutions rule problem phase beginning))
 
 -- the events of a part: its first solutions, whole, and their number
 unfoldable pub part_events : RuleSet → Posed → Phase → Path → List BareEvent
-part_events rule problem phase front =
+part_events rule problem phase beginning =
     map (path_event problem phase) (flat_map (λ solution. solution)
-    (take problem.max_solutions (part_solutions rule problem phase front)))
-    ++ total (part_count rule problem phase front)
-    (part_count rule problem phase front == problem.max_solutions) ∷ []
+    (take problem.max_solutions (part_solutions rule problem phase beginning)))
+    ++ total (part_count rule problem phase beginning)
+    (part_count rule problem phase beginning == problem.max_solutions) ∷ []

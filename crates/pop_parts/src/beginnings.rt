@@ -7,7 +7,7 @@ ghost use Rattle.pop_stipulation.specs.declared.stipulation.Goal.{Goal};
 ghost use Rattle.pop_input.specs.Posed.{IsSound, rule_of};
 ghost use Rattle.pop_stipulation.specs.Stipulations.{half_moves};
 ghost use Rattle.pop_walk.specs.Events.{is_impossible_phase, phase_half_moves as half_moves_of_phase, phase_start, play_start};
-ghost use Rattle.pop_parts.specs.PhaseParts.{beginnings, part_depth as depth_of_parts, part_numbered, parts};
+ghost use Rattle.pop_parts.specs.PhaseParts.{beginnings, part_depth as depth_of_parts, parts};
 ghost use Rattle.pop_parts.specs.ties.Beginnings.{beginnings_to_come, FindsNumbered, IsSeeking, Seeks};
 ghost use Rattle.pop_battle.specs.ties.Frames.{opened_frame};
 ghost use Rattle.pop_walk.specs.ties.Walk.{Position, chess, path};
@@ -115,12 +115,7 @@ pub(crate) fn begin_walk<R: Rules, const N: usize>(
     if phase_half_moves(problem, phase) == 0 || !set_up::<R>(problem, phase, board) {
         return false;
     }
-    frames.push(Frame {
-        place: MovePlace::start(),
-        left: 0,
-        cursor: None,
-        ..Frame::default()
-    });
+    frames.push(Frame::default());
     true
 }
 

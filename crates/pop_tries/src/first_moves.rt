@@ -25,7 +25,7 @@ use pop_battle::chess::next_move;
 
 /// Which first moves are shown.
 #[derive(Clone, Copy, Debug)]
-pub enum Group {
+pub(crate) enum Group {
     /// The keys.
     Keys,
     /// The tries with at most `most` refutations, 0 to `MOST_REFUTATIONS`.
@@ -109,7 +109,7 @@ fn play_next_key<R: Rules, const N: usize>(
             return Some((by, undo, Refuting::none()));
         }
         unplay::<R>(&mut desk.board, by, undo);
-        candidates.keep(place.number(), refuting);
+        candidates.keep(*place, refuting);
     }
     None
 }
@@ -163,7 +163,7 @@ fn play_next_try<R: Rules, const N: usize>(
     while let Some(by) = next_move::<R>(&mut cursor, place, &mut desk.board) {
         if may_be(candidates.set, by) {
             let undo = play::<R>(&mut desk.board, by);
-            let kept = candidates.kept_at(index as usize, place.number());
+            let kept = candidates.kept_at(index as usize, *place);
             let mut refuting = Refuting::none();
             if is_try_as_kept::<R, N>(contest, task.most, kept, &mut refuting, desk) {
                 return Some((by, undo, refuting));
@@ -177,7 +177,7 @@ fn play_next_try<R: Rules, const N: usize>(
 /// Plays the next first move after the place that belongs to the group, and moves the place to it. Returns the
 /// move, what takes it back, and a set that holds its refutations; after the last one `None`, with the board
 /// unchanged.
-pub fn play_next<R: Rules, const N: usize>(
+pub(crate) fn play_next<R: Rules, const N: usize>(
     task: &Task,
     firsts: &mut Firsts,
     desk: &mut Desk<R, N>,
@@ -215,7 +215,7 @@ fn is_shown<R: Rules, const N: usize>(
     contest: Contest,
     first: &First,
     by: Move,
-    place: u16,
+    place: MovePlace,
     desk: &mut Desk<R, N>,
 ) -> bool
     requires ready { IsReady contest desk.old N }
@@ -236,7 +236,7 @@ fn is_shown<R: Rules, const N: usize>(
 /// and moves `place` to it; after the last one `None`. The board is unchanged. It reads
 /// nothing of `first` but what is known of threats and refutations.
 #[tactic(auto, using(crate::proofs::Loops::filtering))]
-pub fn next_reply<R: Rules, const N: usize>(
+pub(crate) fn next_reply<R: Rules, const N: usize>(
     contest: Contest,
     first: &First,
     place: &mut MovePlace,
@@ -251,7 +251,7 @@ pub fn next_reply<R: Rules, const N: usize>(
 {
     let mut cursor = None;
     while let Some(by) = next_move::<R>(&mut cursor, place, &mut desk.board) {
-        if is_shown::<R, N>(contest, first, by, place.number(), desk) {
+        if is_shown::<R, N>(contest, first, by, *place, desk) {
             return Some(by);
         }
     }
@@ -261,7 +261,7 @@ pub fn next_reply<R: Rules, const N: usize>(
 /// Returns the next refutation after `place` of the first move that led to the board's position, and moves
 /// `place` to it; after the last one `None`. The board is unchanged. `refuting` holds the refutations.
 #[tactic(auto, using(crate::proofs::Loops::filtering))]
-pub fn next_refutation<R: Rules, const N: usize>(
+pub(crate) fn next_refutation<R: Rules, const N: usize>(
     contest: Contest,
     refuting: Refuting,
     place: &mut MovePlace,
@@ -275,7 +275,7 @@ pub fn next_refutation<R: Rules, const N: usize>(
 {
     let mut cursor = None;
     while let Some(by) = next_move::<R>(&mut cursor, place, &mut desk.board) {
-        if is_refutation::<R, N>(contest, refuting, by, place.number(), desk) {
+        if is_refutation::<R, N>(contest, refuting, by, *place, desk) {
             return Some(by);
         }
     }

@@ -3,24 +3,25 @@ ghost use Rattle.std.specs.Prelude.{◌≡◌};
 ghost use Rattle.pop_tries.specs.ties.MoveSets.{nothing_refuting};
 
 use crate::move_set::MoveSet;
+use chess_rules::MovePlace;
 
 /// The replies that may refute a first move, and one that does.
 #[derive(Clone, Copy)]
-pub struct Refuting {
+pub(crate) struct Refuting {
     /// Holds the replies that refute.
     pub moves: MoveSet,
-    /// The place of a reply that refutes in the order of moves; 0 if none is known.
-    pub last: u16,
+    /// The place of a reply that refutes in the order of moves; the start if none is known.
+    pub last: MovePlace,
 }
 
 impl Refuting {
     /// Returns what is known of a first move that no reply is known to refute.
-    pub fn none() -> Refuting
+    pub(crate) fn none() -> Refuting
         ensures { result ≡ nothing_refuting }
     {
         Refuting {
             moves: MoveSet::none(),
-            last: 0,
+            last: MovePlace::start(),
         }
     }
 }

@@ -32,5 +32,6 @@ module _ {P M : Type 0} where
   unfoldable pub joined_value : Battle → Game P M → ℕ → P → List M → Bool
   joined_value battle game zero p moves = false
   joined_value battle game (suc t) p moves =
-      if attacker_to_move battle (suc t) then list_any (λ m. value battle game t (game.after p m)) moves
+      if attacker_to_move battle (suc t)
+      then list_any (λ m. value battle game t (game.after p m)) moves
       else list_all (λ m. value battle game t (game.after p m)) moves

@@ -152,12 +152,12 @@ HaveNoPaths rule mode left p before after over =
     × CannotBeMated rule p before after over)
 
 -- after a move of help play to q, with t half-moves left, lines that reach the goal end on these squares
-pub record AreEndsAfter (rule : RuleSet) (mode : Mode) (t : ℕ) (q : Position) (e : LineEnds) : Type 0
-  where
-    pub help : mode.battle ≡ None
-    pub some : 0 < t
-    pub ends : HoldsEnds mode.goal rule t q e.squares
-    pub same : e.goal ≡ mode.goal
+pub record AreEndsAfter (rule : RuleSet) (mode : Mode) (t : ℕ) (q : Position) (e : LineEnds)
+    : Type 0 where
+  pub help : mode.battle ≡ None
+  pub some : 0 < t
+  pub ends : HoldsEnds mode.goal rule t q e.squares
+  pub same : e.goal ≡ mode.goal
 
 -- after a move the mover's king is on none of these squares
 pub record IsKingOff (rule : RuleSet) (p : Position) (m : Move) (w : ℕ) : Type 0 where
