@@ -1,7 +1,7 @@
 -- What the clauses of lists and parts exclude: text of parts that don't exist; a failed sink reported as
--- another end, or another end as a failed sink; words used after the requested item; and solutions that
--- don't begin with the part's moves.
-use Rattle.pop_parts.proofs.Words.{Appends, Bool, Entry, Faulty, Input, List, Lists, Move, None, Option, ReadsItems, Shows, Some, Sound, Word, [], arith, begins_path, begins_so, closings, codes, entries_in, entry_numbered, false, list_any, outcome_at, parts, refl, status_of, reports_device_failure, text_at, text_in, true, ℕ, ◌∷◌, ◌≡◌, ◌≢◌, ◌≤◌}
+-- another end, or another end as a failed sink; words used after the requested item; parts numbered from
+-- 0; and solutions that don't begin with the part's moves.
+use Rattle.pop_parts.proofs.Words.{Appends, Bool, Entry, Faulty, Input, List, Lists, Move, None, Option, Phase, Posed, ReadsItems, RuleSet, Shows, Some, Sound, Word, [], ap, arith, begins_path, begins_so, closings, codes, entries_in, entry_numbered, false, list_any, outcome_at, part_numbered, parts, refl, slice_get, status_of, reports_device_failure, text_at, text_in, true, ℕ, ◌∷◌, ◌≡◌, ◌≢◌, ◌≤◌}
 unfoldable use Rattle.pop_input.specs.Names.{command_of}
 use Rattle.pop_run.specs.declared.status.Status.TheVariants.{OutputFailed as ListCut}
 use Rattle.chess_core.specs.Move.{same_move}
@@ -50,6 +50,16 @@ no_second_item input taken line next r are =
     let few : closings r.reads.tokens ≤ 1 = r.few (omega arith) in
     let two : closings (Word line (codes "NextProblem") ∷ Word next (codes "EndProblem") ∷ []) ≡ 2 = refl in
     omega (arith, rw are at few, two)
+
+module _ (rule : RuleSet) (problem : Posed) (phase : Phase) (depth : ℕ) where
+  -- the parts of a phase are counted from 1: none is numbered 0
+  pub no_part_is_numbered_0 : part_numbered rule problem phase depth 0 ≡ None
+  no_part_is_numbered_0 = refl
+
+  -- the first part is number 1, so the last has the number of all parts
+  pub first_part_is_numbered_1 : (front : List Move) (fronts : List (List Move)) → parts rule problem phase depth ≡ front ∷ fronts
+      → part_numbered rule problem phase depth 1 ≡ Some front
+  first_part_is_numbered_1 front fronts are = ap (λ all. slice_get all 0) are
 
 -- a solution that begins with another move than the part's first isn't the part's
 pub no_other_first_move : (m n : Move) (beginning path : List Move) (paths : List (List Move)) → same_move m n ≡ false

@@ -1,8 +1,10 @@
 -- How a part begins: its solutions come after its first moves.
-use Rattle.pop_parts.proofs.Words.{Frame, IsLinked, IsSound, List, Move, Phase, Posed, Position, RuleSet, [], cut-at, eqb, events_along, false, get_or, is_help, is_legal, length, length-reverse, nat_tests, nil_from_length, part_events, part_solutions, path, path-length, path-more, path_end, path_end-path, phase_half_moves, phase_start, position_after, refl, reverse, rules, some-taken, suc, take, true, arith, ℕ, ◌++◌, ◌+◌, ◌-◌, ◌<◌, ◌∙◌, ◌∷◌, ◌≡◌, ◌≤◌}
+use Rattle.pop_parts.proofs.Words.{Frame, IsLinked, IsPartOpened, IsSound, List, Move, Phase, Posed, Position, RuleSet, Progress, [], ap, cut-at, eqb, events_along, false, get_or, is_help, is_legal, legal_moves, length, length-append, length-reverse, nat_tests, nil_from_length, part_events, part_solutions, part_walk, path, path-length, path-more, path_end, path_end-append, path_end-path, phase_half_moves, phase_start, position_after, refl, reverse, rules, some-taken, suc, take, true, walk_count, arith, ℕ, ◌++◌, ◌+◌, ◌-◌, ◌<◌, ◌∙◌, ◌∷◌, ◌≡◌, ◌≤◌}
 use Rattle.pop_parts.proofs.Parts.{part_cut}
 use Rattle.pop_parts.specs.ties.Beginnings.{IsSeeking}
 use Rattle.pop_parts.specs.ties.PartsSeen.{are_legal}
+use Rattle.pop_walk.proofs.Counting.{counts-if}
+use Rattle.pop_walk.specs.ties.Counts.{Counts, exactly, least_if, untried_at}
 use Rattle.pop_walk.proofs.Solved.{IsCutInto}
 use Rattle.pop_walk.proofs.Walking.{popped}
 use Rattle.pop_walk.specs.ties.Beginnings.{IsBeginning, paths_by}
@@ -43,6 +45,13 @@ none-before n = omega arith
 
 at-root : (n : ℕ) → 0 < n → eqb (n - 1) 0 ≡ eqb n 1
 at-root n some = grind (arith, nat_tests)
+
+-- a part of help play has tried at most the positions of its walk
+pub most-opened : (rule : RuleSet) (problem : Posed) (phase : Phase) (front : List Move) (progress : Progress) (frames : List Frame)
+    (opened : ℕ) → IsPartOpened rule problem phase front progress frames opened → is_help problem.stipulation.form ≡ true
+    → opened ≤ part_walk rule problem phase front
+unfolding least_if
+most-opened rule problem phase front progress frames opened o help = omega (arith, (o help).most refl)
 
 module _ (rule : RuleSet) (problem : Posed) (sound : IsSound problem) (phase : Phase) (frames : List Frame) (board : Position) (d : ℕ)
     (s : IsSeeking rule (phase_half_moves problem phase) d (phase_start problem phase) (reverse frames) board) (long : length frames ≡ d)
@@ -93,3 +102,13 @@ module _ (rule : RuleSet) (problem : Posed) (sound : IsSound problem) (phase : P
   pub events-begun : events_along problem phase 0 come [] ≡ part_events rule problem phase beginning
   unfolding part_events
   events-begun = search (rules, come-cut, none-before)
+
+  walk-is : part_walk rule problem phase front ≡ walk_count (legal_moves rule) (position_after rule) (h - n) (position_after rule board m)
+  walk-is = grind (arith, length-append, path-length, size, path_end-append problem.stipulation.goal rule p (path old) m, board-at)
+
+  -- the part has begun
+  pub opens-begun : (progress : Progress) (new : List Frame) (opened : ℕ) → (is_help problem.stipulation.form ≡ true
+      → Counts (exactly (walk_count (legal_moves rule) (position_after rule) (h - n) (position_after rule board m))) (untried_at rule problem progress new) 0
+      opened)
+      → IsPartOpened rule problem phase front progress new opened
+  opens-begun progress new opened counted help = counts-if false _ _ _ _ (rw walk-is (counted help))

@@ -4,7 +4,7 @@ pub use Rattle.pop_walk.proofs.Words.{moves_after}
 unfoldable pub use Rattle.pop_walk.proofs.Words.{AreCursors, IsLinked, IsRoomy, help_lines, lines_to_goal, path, position, set_tree, shown_paths, solutions, to_come, to_open, walk_count, walk_work, left_of}
 pub use Rattle.std.proofs.Common.{codes}
 pub use Rattle.pop_events.specs.declared.event.Phase.{Phase}
-pub use Rattle.pop_parts.specs.PhaseParts.{begins_so, part_count, part_depth}
+pub use Rattle.pop_parts.specs.PhaseParts.{begins_so, part_count, part_depth, part_numbered}
 unfoldable pub use Rattle.pop_parts.specs.PhaseParts.{beginnings, begins_path, part_events, part_solutions, parts}
 pub use Rattle.pop_walk.proofs.Sound.{in_range, no-battle, some_way, start_sound}
 pub use Rattle.pop_parts.specs.ties.Items.{entry_in, is_failure, text_if}
@@ -26,6 +26,7 @@ pub use Rattle.pop_walk.proofs.theorems.Lists.{IsPlayable, StandsBefore, never_b
 pub use Rattle.pop_walk.proofs.Paths.{cut-at, path-length, path-more, path_end-append, path_end-path, position-more, some-taken}
 pub use Rattle.std.proofs.lemmas.List.{length-drop, take_all}
 pub use Rattle.pop_walk.specs.declared.phases.Progress.{Progress}
+pub use Rattle.pop_parts.specs.ties.PartsSeen.{IsPartOpened, part_walk}
 pub use Rattle.pop_run.proofs.Findings.{IsPrinting, first_shown, printing_breaks_off, printing_goes_on}
 pub use Rattle.chess_rules.specs.Legal.{moves as legal_moves}
 pub use Rattle.chess_rules.specs.Play.{position_after}

@@ -1,6 +1,6 @@
 -- The parts of a phase: its solutions divided by their first moves, so that each part can be searched by
 -- itself, on any machine (own).
-use Rattle.std.specs.Prelude.{ℕ, zero, suc, ◌==◌, min, Bool, true, false, ◌&&◌, ◌||◌, if◌then◌else◌, List, [], ◌∷◌, ◌++◌, map, take, filter, length}
+use Rattle.std.specs.Prelude.{ℕ, zero, suc, ◌-◌, ◌==◌, min, Bool, true, false, ◌&&◌, ◌||◌, if◌then◌else◌, List, [], ◌∷◌, ◌++◌, map, take, filter, length, Option, None, slice_get}
 use Rattle.std.specs.List.{flat_map}
 use Rattle.chess_core.specs.Move.{same_move}
 use Rattle.chess_attacks.specs.RuleSet.{RuleSet}
@@ -31,6 +31,11 @@ parts rule problem phase depth =
     if is_impossible_phase rule problem phase || (phase_half_moves problem phase == 0) then []
     else beginnings (chess problem.stipulation.goal rule) (part_depth problem phase depth)
     (phase_start problem phase)
+
+-- the part with a number, counted from 1
+abbrev pub part_numbered : RuleSet → Posed → Phase → ℕ → ℕ → Option Path
+part_numbered rule problem phase depth number =
+    if number == 0 then None else slice_get (parts rule problem phase depth) (number - 1)
 
 -- the path begins with these moves
 unfoldable pub begins_path : Path → Path → Bool

@@ -7,7 +7,7 @@ ghost use Rattle.pop_stipulation.specs.declared.stipulation.Goal.{Goal};
 ghost use Rattle.pop_input.specs.Posed.{IsSound, rule_of};
 ghost use Rattle.pop_stipulation.specs.Stipulations.{half_moves};
 ghost use Rattle.pop_walk.specs.Events.{is_impossible_phase, phase_half_moves as half_moves_of_phase, phase_start, play_start};
-ghost use Rattle.pop_parts.specs.PhaseParts.{beginnings, part_depth as depth_of_parts, parts};
+ghost use Rattle.pop_parts.specs.PhaseParts.{beginnings, part_depth as depth_of_parts, part_numbered, parts};
 ghost use Rattle.pop_parts.specs.ties.Beginnings.{beginnings_to_come, FindsNumbered, IsSeeking, Seeks};
 ghost use Rattle.pop_battle.specs.ties.Frames.{opened_frame};
 ghost use Rattle.pop_walk.specs.ties.Walk.{Position, chess, path};

@@ -26,5 +26,6 @@ mod show;
 
 pub use beginnings::count_parts;
 pub use list::list_parts;
+pub use part_search::PartSearch;
 pub use request::{Outcome, PartRequest};
 pub use show::show_parts;

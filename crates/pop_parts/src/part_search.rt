@@ -3,10 +3,11 @@ ghost use Rattle.std.specs.Prelude.{◌≡◌, ◌<◌, [], ◌∷◌, ◌++◌,
 ghost use Rattle.arrayvec.specs.ArrayVec.{array_vec_len};
 ghost use Rattle.pop_walk.specs.ties.Walk.{path};
 
+use crate::remaining_parts::RemainingParts;
 use arrayvec::ArrayVec;
 use chess_core::{Board, Move};
 use chess_rules::Rules;
-use pop_battle::{Frame, Killers, SearchState};
+use pop_battle::{Frame, Killers, SearchState, show_fits_u64};
 use pop_events::{Event, Phase};
 use pop_input::{MOST_FRAMES, Problem};
 use pop_walk::beginning::begin_after;
@@ -36,7 +37,7 @@ fn beginning_of<R: Rules, const N: usize>(
 /// moves. It returns their events one by one, as `Search` does for a whole problem. Contracts see the
 /// record `PartSeen`.
 #[derive(Drop)]
-pub(crate) struct PartSearch<R: Rules, const N: usize> {
+pub struct PartSearch<R: Rules, const N: usize> {
     problem: Problem,
     phase: Phase,
     beginning: ArrayVec<Move, N>,
@@ -52,7 +53,7 @@ impl<R: Rules, const N: usize> Model for PartSearch<R, N> {
     ghost use Rattle.pop_input.specs.Posed.{IsSound};
     ghost use Rattle.pop_stipulation.specs.Stipulations.{half_moves};
     ghost use Rattle.pop_walk.specs.ties.Phases.{left_of, HoldsAtProgress};
-    ghost use Rattle.pop_parts.specs.ties.PartsSeen.{PartSeen};
+    ghost use Rattle.pop_parts.specs.ties.PartsSeen.{PartSeen, IsPartOpened};
 
     ghost Value = { PartSeen };
 
@@ -63,26 +64,59 @@ impl<R: Rules, const N: usize> Model for PartSearch<R, N> {
       left = left_of R.rule s.problem s.progress (reverse s.frames.items);
       board = s.board;
       depth = array_vec_len s.frames;
+      opened = s.search_state.opened;
       killers = s.search_state.killers;
     } };
 
     ghost invariant = { λ s. IsSound s.problem
         × (half_moves s.problem.stipulation < N)
-        × HoldsAtProgress R.rule s.problem s.progress (reverse s.frames.items) s.board };
+        × HoldsAtProgress R.rule s.problem s.progress (reverse s.frames.items) s.board
+        × IsPartOpened R.rule s.problem s.phase s.beginning.items s.progress (reverse s.frames.items)
+        s.search_state.opened };
 }
 
 impl<R: Rules, const N: usize> PartSearch<R, N> {
-    ghost use Rattle.std.specs.Prelude.{[], ◌∷◌, ◌++◌, ℕ, false, true, ◌≡◌, ◌<◌, ◌≤◌, reverse, MatchOption, slice_get, drop};
+    ghost use Rattle.std.specs.Prelude.{[], ◌∷◌, ◌++◌, ℕ, false, true, ◌≡◌, ◌-◌, ◌<◌, ◌≤◌, ◌^◌, min, reverse, MatchOption, None, Some, slice_get, drop};
     ghost use Rattle.arrayvec.specs.ArrayVec.{array_vec_len};
     ghost use Rattle.chess_rules.specs.Legal.{is_legal};
     ghost use Rattle.pop_input.specs.Posed.{IsSound};
     ghost use Rattle.std.specs.Option.{option_map};
+    ghost use Rattle.pop_input.specs.Posed.{rule_of};
     ghost use Rattle.pop_stipulation.specs.Stipulations.{half_moves, is_help};
     ghost use Rattle.pop_walk.specs.Events.{event_of, phase_half_moves as half_moves_of_phase, phase_start, play_start};
     ghost use Rattle.pop_parts.specs.ties.Beginnings.{IsSeeking};
     ghost use Rattle.pop_walk.specs.ties.Walk.{path};
-    ghost use Rattle.pop_parts.specs.PhaseParts.{part_events};
+    ghost use Rattle.pop_parts.specs.PhaseParts.{part_events, part_numbered};
+    ghost use Rattle.pop_parts.specs.ties.PartsSeen.{part_walk};
     ghost use Rattle.pop_walk.specs.ties.Seen.{IsAtPathOf};
+
+    /// Returns a search of the part with this number, counted from 1 in the order of moves; `None` if the
+    /// phase has fewer parts. `depth` moves, 1 or more, distinguish the parts of help play. `N` must be
+    /// more than the half-moves of the play and at most `MOST_FRAMES`, and `R` must be the rules of the problem's
+    /// condition. The killers affect speed only.
+    pub fn of(
+        problem: &Problem,
+        phase: Phase,
+        depth: usize,
+        number: u64,
+        killers: Killers,
+    ) -> Option<Self>
+        requires room { half_moves problem.now.stipulation < N }
+        requires few { N ≤ MOST_FRAMES }
+        requires rule { R.rule ≡ rule_of problem.now.condition }
+        requires depth { 1 ≤ depth }
+        ensures part { MatchOption result
+            (part_numbered R.rule problem.now phase depth number ≡ None)
+            (λ s. (part_numbered R.rule problem.now phase depth number ≡ Some s.beginning)
+            × (s.problem ≡ problem.now) × (s.phase ≡ phase)
+            × (s.left ≡ part_events R.rule problem.now phase s.beginning)) }
+    {
+        if number == 0 {
+            return None;
+        }
+        let mut parts = RemainingParts::<R, N>::of(problem, phase, depth)?;
+        parts.search(number, killers)
+    }
 
     /// Returns a search of the part whose first moves lead to the top frame and end with `by`.
     pub(crate) fn at(
@@ -130,7 +164,7 @@ impl<R: Rules, const N: usize> PartSearch<R, N> {
 
     /// Returns the next event, or `None` after the last one and on every later call. After a line or node
     /// the board has the position to which its path leads; after `None` it has the play's first position.
-    pub(crate) fn next(&mut self) -> Option<Event>
+    pub fn next(&mut self) -> Option<Event>
         ensures event { result ≡ option_map (event_of R.rule self.old.problem)
             (slice_get self.old.left 0) }
         ensures left { self.new.left ≡ drop 1 self.old.left }
@@ -140,7 +174,9 @@ impl<R: Rules, const N: usize> PartSearch<R, N> {
         ensures problem { self.new.problem ≡ self.old.problem }
         ensures phase { self.new.phase ≡ self.old.phase }
         ensures beginning { self.new.beginning ≡ self.old.beginning }
+        ensures opened { self.old.opened ≤ self.new.opened }
     {
+        show_fits_u64(self.search_state.opened);
         let mut event = None;
         advance::<R, N, true>(
             &self.problem,
@@ -154,10 +190,22 @@ impl<R: Rules, const N: usize> PartSearch<R, N> {
     }
 
     /// Returns the search's killers, the moves that last decided tests.
-    pub(crate) fn into_killers(self) -> Killers
+    pub fn into_killers(self) -> Killers
         ensures { result ≡ self.killers }
     {
         let PartSearch { search_state, .. } = self;
         search_state.killers
+    }
+
+    /// Returns the number of positions counted so far, as `PrunedSearch` counts them, up to the greatest u64.
+    /// Positions before the end of the first moves don't count, nor does a test whether the first moves
+    /// mate, nor do tests that only guess killers. In help play it is at most the part's walk count.
+    pub fn opened(&self) -> u64
+        ensures opened { result ≡ self.now.opened }
+        ensures most { is_help self.now.problem.stipulation.form ≡ true
+            → result ≤ part_walk R.rule self.now.problem self.now.phase self.now.beginning }
+    {
+        show_fits_u64(self.search_state.opened);
+        self.search_state.opened
     }
 }

@@ -11,7 +11,14 @@ begin_after-progress-requires g c =
 
 pub invariant_of-result : goal.invariant_of-result
 invariant_of-result g c =
-    (c.requires.sound, (c.requires.room, c.begin_after-progress.ensures.standing))
+    let s = c.requires.seeking in (
+      c.requires.sound,
+      c.requires.room,
+      c.begin_after-progress.ensures.standing,
+      rw c.beginning_of-beginning.ensures (part.opens-begun g.R.Rules.rule
+          c.args.problem.now c.requires.sound c.args.phase _ _ _ s.1 s.2 c.requires.«open» _ c.requires.legal c.requires.battle _ _ _
+          c.begin_after-progress.ensures.counts),
+    )
 
 pub returns-clause-left : goal.returns-clause-left
 returns-clause-left g c =
