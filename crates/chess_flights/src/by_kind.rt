@@ -1,5 +1,5 @@
-//! A value for each kind of man, and what is computed for all kinds. Where men are taken kind by kind, here
-//! and in the crates above, no other module lists the kinds.
+//! A value for each kind of man, and what is computed for all kinds. Code here and above that goes through
+//! all kinds uses this module.
 ghost use Rattle.std.specs.Prelude.{◌≡◌, ◌==◌, ℕ, true};
 ghost use Rattle.std.specs.Int.{bit_at};
 ghost use Rattle.chess_core.specs.declared.man.Kind.{Kind};

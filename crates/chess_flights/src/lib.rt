@@ -5,6 +5,7 @@
 //!
 //! ```rust
 //! use chess_attacks::lines::occupied;
+//! use chess_attacks::words::only;
 //! use chess_core::{Board, Colour, Square};
 //! use chess_flights::attackers::attackers_on;
 //! use chess_flights::free_steps::free_steps;
@@ -19,7 +20,8 @@
 //!         let white = attackers_on(&board, Colour::White);
 //!         let guarded = leapt_squares(occupied(&board), &white, steps);
 //!         // White's king guards f7, g7 and h7: f8 and h8 are left.
-//!         assert!(rt; steps & !guarded == 1 << 61 | 1 << 63);
+//!         let left = only(Some(Square::F8)) | only(Some(Square::H8));
+//!         assert!(rt; steps & !guarded == left);
 //!     }
 //! }
 //! ```

@@ -116,7 +116,8 @@ struct ChecksOfKind<'a> {
 impl ForKind<()> for ChecksOfKind<'_> {
     type Out = Squares;
 
-    ghost fits = { λ f. (f.straight ≡ word (may_check_from f.board.now.men f.colour (enemy f.colour Rook)))
+    ghost fits = { λ f.
+        (f.straight ≡ word (may_check_from f.board.now.men f.colour (enemy f.colour Rook)))
         × (f.diagonal ≡ word (may_check_from f.board.now.men f.colour (enemy f.colour Bishop))) };
 
     ghost holds = { λ f k _ w. same_kind k King ≡ false

@@ -103,7 +103,7 @@ fn squares_between(occupied: Squares, to: Square, king: Square) -> Squares
 
 // Returns whether the man on `to` no longer reaches the king after the first of `comers` has gone to
 // `square`; `false` without comers.
-fn shuts(
+fn closes_line(
     occupied: Squares,
     man: Man,
     to: Square,
@@ -161,7 +161,8 @@ fn parries_between(
     king: Square,
     unpinned: Squares,
 ) -> Parries
-    ensures { (men : List (Option Man)) → DescribesMen board.now.men men (other board.now.turn) occupancy
+    ensures { (men : List (Option Man))
+        → DescribesMen board.now.men men (other board.now.turn) occupancy
         → unpinned ≡ word (is_unpinned board.now m king)
         → IsKnownBetween men board.now man m king result }
 {
@@ -177,7 +178,7 @@ fn parries_between(
         let pawns = board.squares(enemy, Kind::Pawn) & occupancy.standing;
         let loose = reaching & unpinned;
         let comers = loose & !pawns | pawns & unpinned & pawn_origins(enemy, square);
-        if shuts(occupancy.occupied, man, to, king, square, comers) {
+        if closes_line(occupancy.occupied, man, to, king, square, comers) {
             return Parries::Possible;
         }
         nobody_comes &= !is_approached(reaching, pawns, square, king, enemy);

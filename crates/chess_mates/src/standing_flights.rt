@@ -23,7 +23,7 @@ use chess_flights::guards::{leapt_squares, rider_reach};
 const MOST_MEN: u32 = 12;
 
 /// The flights, and the squares that the mover's riders reach (`ridden`). A man that leaves any other
-/// square opens no line. From each square a man opens none to flights that are on no line with it.
+/// square opens no line. A man that leaves a ridden square opens lines only to flights on a line with it.
 #[derive(Clone, Copy)]
 pub(crate) struct StandingFlights {
     flights: Squares,

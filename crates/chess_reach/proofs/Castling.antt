@@ -1,5 +1,5 @@
 -- Castling as three moves: the king's two steps and the rook's move.
-use Rattle.chess_reach.proofs.Chess.{Black, Bool, checks_by_leap, same_colour-refl, Colour, IsWellFormed, King, Kind, List, Man, Move, None, Option, Position, Rook, RuleSet, Some, White, along, and_from, and_parts, ap, arith, corner, goes, guards, halfway, has_unmoved, inl, inr, is_castling, is_man, is_vacant, leaps, man_on, man_on-with_other, man_on-with_same, man_on-without_other, man_on-without_same, may_promote, position_after, reaches_as, refl, rides, same_colour, same_colour-true, same_kind, same_kind-true, sym, true, with_man, without_man, ℕ, ◌<◌, ◌∙◌, ◌≡◌, ◌≢◌, ◌⊎◌, length, captures_are_reborn, ◌+◌, Ends, IsPlan, arriving_man, capture_square, suc, other, moved_men, position_after_by, is_pseudo_legal, false, false≢true}
+use Rattle.chess_reach.proofs.Chess.{Black, Bool, checks_by_leap, same_colour-refl, Colour, IsWellFormed, King, Kind, List, Man, Move, None, Option, Position, Rook, RuleSet, Some, White, along, and_from, and_parts, ap, arith, corner, goes, guards, halfway, has_unmoved, inl, inr, is_castling, is_man, is_vacant, leaps, man_on, man_on-with_other, man_on-with_same, man_on-without_other, man_on-without_same, may_promote, position_after, reaches_as, refl, rides, same_colour, same_colour-true, same_kind, same_kind-true, sym, true, with_man, without_man, ℕ, ◌<◌, ◌∙◌, ◌≡◌, ◌≢◌, ◌⊎◌, length, ◌+◌, Ends, IsPlan, arriving_man, capture_square, suc, other, moved_men, position_after_by, is_pseudo_legal, false, false≢true}
 use Rattle.chess_reach.proofs.Gone.{king_kept}
 use Rattle.chess_reach.specs.Plans.{king_home}
 use Rattle.chess_reach.proofs.OneMove.{IsGone, king_arrives, king_goes, king_stays, other_king_stays, other_step, own_step, stays, stood_before}

@@ -3,9 +3,11 @@ use Rattle.chess_attacks.proofs.Chess.{Bool, Colour, King, List, Man, None, Opti
 unfoldable use Rattle.chess_attacks.proofs.Chess.{along, king_square, leaps, reaches_as, squares}
 use Rattle.std.proofs.Common.{slice_index_or}
 use Rattle.std.specs.List.{sum_by}
+use Rattle.std.specs.Prelude.{find, is_some}
+use Rattle.std.proofs.lemmas.Bool.{false_from_ne_true}
 use Rattle.chess_attacks.proofs.Tests.{find_first}
 use Rattle.chess_attacks.proofs.rays.Flips.{king-back}
-use Rattle.chess_core.specs.Position.{Position, may_promote, same_kind}
+use Rattle.chess_core.specs.Position.{Position, kinds, may_promote, same_kind}
 use Rattle.chess_rules.specs.Play.{rebirth}
 use Rattle.chess_core.specs.declared.man.Kind.{Kind}
 use Rattle.chess_reach.proofs.Bitboards.{on_both, on_first}
@@ -27,7 +29,7 @@ use Rattle.chess_reach.specs.ties.Guards.{AreBlocks, AreGuards, CanEnd, StaysAwa
 use Rattle.chess_reach.specs.ties.Hold.{Captures, DoesCheck, DoesDefend, DoesGuard, Holds, IsApart, IsBegun, IsHeld, IsIn, IsQuestOf, blocks_in, end_at, post_at}
 unfoldable use Rattle.chess_reach.specs.ties.Hold.{blocked, unpaid}
 use Rattle.chess_reach.specs.ties.Whereabouts.{has}
-use Rattle.chess_reach.specs.ties.Ways.{IsChain, IsUsual, is_unfollowed, nowhere}
+use Rattle.chess_reach.specs.ties.Ways.{IsChain, IsUsual, is_unfollowed, may_promote_to_unfollowed, nowhere}
 use Rattle.pop_stipulation.specs.declared.stipulation.Goal.{Goal}
 use Rattle.pop_stipulation.specs.declared.stipulation.Goal.TheVariants.{Mate}
 
@@ -349,9 +351,21 @@ king_near goal sc rb p c d ours theirs k from ends chain enemy plan stands small
     own_colour : (x : Colour) → is_of_colour (Some (record { colour = x; kind = King })) x ≡ true
     own_colour x = grind arith
 
+-- if no kind is found, the test holds of none
+none_holds : (test : Kind → Bool) → find test kinds ≡ None → (k : Kind) → test k ≡ true → ⊥
+none_holds test e k h = grind arith
+
 -- where each promotion is followed, pawns promote as usual
-pub usual_promotion : (p : Position) → ((k : Kind) → is_unfollowed k ≡ true → may_promote p k ≡ false) → IsUsual (may_promote p)
-usual_promotion p h = record { king = refl; pawn = refl; followed = h }
+pub usual_promotion : (p : Position) (found : Bool) → found ≡ is_some (find (may_promote_to_unfollowed p) kinds) → found ≡ false → IsUsual (may_promote p)
+usual_promotion p found e none = record { king = refl; pawn = refl; followed = followed }
+  where
+    nowhere_found : (o : Option Kind) → is_some o ≡ false → o ≡ None
+    nowhere_found None h = refl
+    nowhere_found (Some k) h = absurd (false≢true (sym h))
+
+    followed : (k : Kind) → is_unfollowed k ≡ true → may_promote p k ≡ false
+    followed k unfollowed = false_from_ne_true (may_promote p k)
+        (λ may. none_holds (may_promote_to_unfollowed p) (nowhere_found _ (sym e ∙ none)) k (and_from _ _ unfollowed may))
 
 -- the quest of a position, before its guards are listed
 pub quest_begun : (p : Position) (c d : Colour) (theirs count : ℕ) (gs : List Guard) (ws : List ℕ) (ending : Ending) (from at : ℕ) (king : Guard) → d ≡ other c

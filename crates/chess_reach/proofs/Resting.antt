@@ -1,5 +1,5 @@
 -- Where a man can be without a move, if captured men are reborn.
-use Rattle.chess_attacks.proofs.Chess.{Bishop, Black, Bool, Colour, Kind, King, Knight, Man, Pawn, Queen, Rook, Some, White, all_at, ap, arith, bit_and, bit_at, bit_not, bit_or, cases_Bool, eq-eqb, false, false≢true, inl, inr, on_left, on_right, range_with_len, rank_of, refl, same_kind-true, subst, sym, true, w64, ℕ, ◌%◌, ◌*◌, ◌+◌, ◌<◌, ◌==◌, ◌^◌, ◌∙◌, ◌≡◌, ◌≢◌, if◌then◌else◌, list_all}
+use Rattle.chess_attacks.proofs.Chess.{Bishop, Black, Bool, Colour, Kind, King, Knight, Man, Pawn, Queen, Rook, Some, White, all_at, arith, bit_and, bit_at, bit_not, bit_or, cases_Bool, eq-eqb, false, false≢true, inl, inr, on_left, on_right, range_with_len, rank_of, refl, same_kind-true, subst, sym, true, w64, ℕ, ◌%◌, ◌*◌, ◌+◌, ◌<◌, ◌==◌, ◌^◌, ◌∙◌, ◌≡◌, ◌≢◌, if◌then◌else◌, list_all}
 use Rattle.std.specs.Prelude.{◌/◌, ◌||◌, ◌&&◌, not}
 use Rattle.chess_core.specs.Position.{is_fairy, same_kind}
 use Rattle.chess_core.specs.Squares.{file_of, square_at}

@@ -43,7 +43,8 @@ pub record IsGuarded (men : List (Option Man)) (c : Colour) (ends : Ends) (k t :
   pub guards : guards c (ends by).kind (ends by).square t ≡ true
 
 -- a man of colour c ends on t, and, captured there, guards it from another square, where it is reborn
-pub record IsDefended (reborn : Bool) (men : List (Option Man)) (c : Colour) (ends : Ends) (t : ℕ) : Type 0 where
+pub record IsDefended (reborn : Bool) (men : List (Option Man)) (c : Colour) (ends : Ends)
+    (t : ℕ) : Type 0 where
   pub by : ℕ
   pub ours : is_of_colour (man_on men by) c ≡ true
   pub there : (ends by).square ≡ t
@@ -69,7 +70,8 @@ abbrev pub standing_checks : RuleSet → Bool
 standing_checks rule = like_men_paralyse rule || captures_are_reborn rule
 
 -- a man of colour c checks the king on k from its end
-pub record IsChecked (standing_checks : Bool) (men : List (Option Man)) (c : Colour) (ends : Ends) (k : ℕ) : Type 0 where
+pub record IsChecked (standing_checks : Bool) (men : List (Option Man)) (c : Colour) (ends : Ends)
+    (k : ℕ) : Type 0 where
   pub guarded : IsGuarded men c ends k k
   pub arrives : Arrives standing_checks (ends guarded.by)
 
@@ -102,9 +104,11 @@ may_capture reborn men c ends d t =
 
 -- colour c makes n moves and the other side m; the king of the other side ends on k, not next to the king of
 -- colour c; it can't move there, and for mate is in check
-pub record IsPlan (goal : Goal) (standing_checks reborn : Bool) (p : Position) (c : Colour) (n m k : ℕ) (ends : Ends) : Type 0 where
+pub record IsPlan (goal : Goal) (standing_checks reborn : Bool) (p : Position) (c : Colour)
+    (n m k : ℕ) (ends : Ends) : Type 0 where
   pub gets : (s : ℕ) (x : Man) → man_on p.men s ≡ Some x
-      → Gets reborn (may_promote p) (may_capture reborn p.men c ends x.colour) x.colour (ends s).moves
+      → Gets reborn (may_promote p) (may_capture reborn p.men c ends x.colour) x.colour
+      (ends s).moves
       x.kind s (ends s).kind (ends s).square
   pub ours : price p.men c ends ≤ n
   pub theirs : price p.men (other c) ends ≤ m

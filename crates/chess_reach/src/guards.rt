@@ -14,7 +14,7 @@ use chess_attacks::words::pop_first;
 use chess_core::{Board, Colour, Kind, Man, Square, Squares};
 
 /// The greatest number of men of the mating side with which plans are searched.
-pub(crate) const MEN: usize = 8;
+pub const MOST_GUARDS: usize = 8;
 
 // The most squares for which it pays to look from each.
 const MOST_LOOKED_FROM: u32 = 4;
@@ -125,7 +125,8 @@ impl Guard {
     ) -> Whereabouts
         ensures guarded { (j : Kind) (s : ℕ) → s < 64 → CanBe self.now.kind j → s ≢ king
             → guards colour j s square ≡ true → has self.now.kind j s result ≡ true }
-        ensures defended { (j : Kind) (h : ℕ) → CanBe self.now.kind j → are_reborn ≡ true → h ≢ square
+        ensures defended { (j : Kind) (h : ℕ) → CanBe self.now.kind j → are_reborn ≡ true
+            → h ≢ square
             → rebirth colour j square ≡ Some h → guards colour j h square ≡ true
             → has self.now.kind j square result ≡ true }
     {
@@ -183,15 +184,16 @@ pub(crate) fn list_guards(
     most: usize,
     prey: Squares,
     are_reborn: bool,
-    guards: &mut [Guard; MEN],
+    guards: &mut [Guard; MOST_GUARDS],
 ) -> Option<usize>
     requires { most < MOVES }
-    ensures { IfSome result (λ count. AreGuards are_reborn prey board.now.men colour most guards.new count) }
+    ensures { IfSome result
+        (λ count. AreGuards are_reborn prey board.now.men colour most guards.new count) }
 {
     let mut rest = board.side(colour);
     let mut count = 0;
     while let Some(from) = pop_first(&mut rest) {
-        if count == MEN {
+        if count == MOST_GUARDS {
             return None;
         }
         let Some(man) = board.man_at(from) else {

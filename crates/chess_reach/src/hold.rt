@@ -8,7 +8,7 @@ ghost use Rattle.chess_reach.specs.ties.Hold.{DoesCheck, Holds, IsIn};
 ghost use Rattle.chess_reach.specs.ties.Whereabouts.{has};
 
 use crate::blocks::Blocks;
-use crate::guards::{Guard, MEN};
+use crate::guards::{Guard, MOST_GUARDS};
 use crate::ways::MOVES;
 use crate::whereabouts::Whereabouts;
 use chess_attacks::words::{contains, pop_first};
@@ -23,10 +23,10 @@ pub(crate) struct Post {
 }
 
 /// The posts of the guards.
-pub(crate) type Posts = [Post; MEN];
+pub(crate) type Posts = [Post; MOST_GUARDS];
 
 /// Squares that the guards may guard, which guide the search.
-pub(crate) type Sights = [Squares; MEN];
+pub(crate) type Sights = [Squares; MOST_GUARDS];
 
 /// The goal of a plan, and what decides which men may check and where captured men go.
 #[derive(Clone, Copy)]
@@ -48,7 +48,7 @@ pub(crate) struct Quest {
     pub(crate) king: Square,
     /// The number of guards.
     pub(crate) count: usize,
-    pub(crate) guards: [Guard; MEN],
+    pub(crate) guards: [Guard; MOST_GUARDS],
     pub(crate) blockable: Blocks,
 }
 
@@ -112,7 +112,8 @@ fn checking(
 ) -> Option<Post>
     ensures within { IfSome result (λ p. (post.now.moves ≤ p.moves)
         × (p.moves ≤ post.now.moves + spare)) }
-    ensures kept { (e : End) → CanEnd guard.now e → StaysAway quest.now.ending.are_reborn guard.now e
+    ensures kept { (e : End) → CanEnd guard.now e
+        → StaysAway quest.now.ending.are_reborn guard.now e
         → post.now.moves ≤ e.moves
         → e.moves ≤ post.now.moves + spare → has guard.now.kind e.kind e.square squares.now ≡ true
         → Arrives quest.now.ending.standing_checks e
@@ -131,7 +132,7 @@ fn checking(
 }
 
 impl Quest {
-    // Takes another square as the king's.
+    // Replaces the king's square.
     #[inline(always)]
     pub(crate) fn seek(&mut self, king: Square)
         ensures { self.new ≡ record self.old { king = king } }
@@ -168,7 +169,7 @@ impl Quest {
         ours: usize,
         theirs: usize,
     ) -> Option<Square>
-        requires { self.now.count ≤ MEN }
+        requires { self.now.count ≤ MOST_GUARDS }
         ensures { IfSome result (λ s. (s < 64) × ((bit_at squares s == 1) ≡ true)) }
     {
         let most = if theirs < MOVES { theirs } else { MOVES - 1 };
@@ -221,7 +222,7 @@ pub(crate) fn can_hold(
     ours: usize,
     theirs: usize,
 ) -> bool
-    requires { quest.now.count ≤ MEN }
+    requires { quest.now.count ≤ MOST_GUARDS }
     ensures { (men : List (Option Man)) (ends : Ends)
         → Holds quest.now men posts.now unheld ours theirs ends → result ≡ true }
 {
@@ -275,7 +276,7 @@ fn can_mate_by(
     ours: usize,
     theirs: usize,
 ) -> bool
-    requires count { quest.now.count ≤ MEN }
+    requires count { quest.now.count ≤ MOST_GUARDS }
     requires checker { checker < quest.now.count }
     ensures { (men : List (Option Man)) (ends : Ends)
         → Holds quest.now men posts.now unheld ours theirs ends
@@ -290,7 +291,7 @@ fn can_mate_by(
     };
     let mut narrowed_posts = *posts;
     narrowed_posts[checker] = kept;
-    let mut sights = [Squares::MAX; MEN];
+    let mut sights = [Squares::MAX; MOST_GUARDS];
     sights[checker] = guard.sight(quest.colour, &kept.squares, Squares::MAX);
     can_hold(
         quest,
@@ -311,7 +312,7 @@ pub(crate) fn can_mate(
     ours: usize,
     theirs: usize,
 ) -> bool
-    requires { quest.now.count ≤ MEN }
+    requires { quest.now.count ≤ MOST_GUARDS }
     ensures { (men : List (Option Man)) (ends : Ends) (i : ℕ)
         → Holds quest.now men posts.now unheld ours theirs ends → i < quest.now.count
         → DoesCheck quest.now ends i → result ≡ true }

@@ -4,6 +4,7 @@
 //! For example, in a test with the parameter `rt: HostRuntime`:
 //!
 //! ```rust
+//! use chess_attacks::words::only;
 //! use chess_core::{Board, Colour, Diagram, Kind, Man, Square};
 //! use chess_reach::mating_squares;
 //! use chess_rules::Orthodox;
@@ -21,8 +22,9 @@
 //! diagram.turn = Colour::Black;
 //! if diagram.is_well_formed() {
 //!     let board = Board::of(&diagram);
-//!     // Ra1-a8 mates a king on g8 or h8, and no square else is found.
-//!     assert!(rt; mating_squares::<Orthodox>(&board, Goal::Mate, !0, 2) == 1 << 62 | 1 << 63);
+//!     // Ra1-a8 mates a king on g8 or h8, and no other square is found.
+//!     let found = only(Some(Square::G8)) | only(Some(Square::H8));
+//!     assert!(rt; mating_squares::<Orthodox>(&board, Goal::Mate, !0, 2) == found);
 //! }
 //! ```
 //!
@@ -48,4 +50,5 @@ mod planned_squares;
 mod ways;
 mod whereabouts;
 
+pub use crate::guards::MOST_GUARDS;
 pub use crate::line_ends::mating_squares;

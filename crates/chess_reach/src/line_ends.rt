@@ -77,7 +77,7 @@ fn last_mover_moves(half_moves: usize) -> usize
     half_moves - others
 }
 
-// Returns these moves and those that castling may save this colour.
+// Returns the moves, plus two if castling may save them.
 fn with_castling(board: &Board, colour: Colour, moves: usize) -> usize
     requires { moves ≤ 2 ^ 63 }
     ensures { result ≡ moves + saved_moves board.now colour }

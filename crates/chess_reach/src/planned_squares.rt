@@ -1,7 +1,7 @@
 //! The squares for which there may be a plan.
-ghost use Rattle.std.specs.Prelude.{◌≡◌, ◌+◌, ◌-◌, ◌^◌, ◌<◌, ◌≤◌, false, ◌==◌, ℕ, true, List, Option, IfSome, MatchOption, slice_index_or, ◌⊎◌};
+ghost use Rattle.std.specs.Prelude.{◌≡◌, ◌+◌, ◌-◌, ◌^◌, ◌<◌, ◌≤◌, false, ◌==◌, ℕ, true, List, Option, IfSome, MatchOption, find, is_some, slice_index_or, ◌⊎◌};
 ghost use Rattle.std.specs.Int.{bit_at};
-ghost use Rattle.chess_core.specs.Position.{Position, may_promote, other};
+ghost use Rattle.chess_core.specs.Position.{Position, kinds, other};
 ghost use Rattle.chess_core.specs.WellFormed.{IsWellFormed};
 ghost use Rattle.chess_reach.specs.Plans.{Ends, IsPlan, captures_to};
 ghost use Rattle.chess_core.specs.declared.man.Colour.TheVariants.{White};
@@ -11,10 +11,10 @@ ghost use Rattle.chess_core.specs.declared.man.Man.{Man};
 ghost use Rattle.chess_reach.specs.Reach.{guards};
 ghost use Rattle.chess_reach.specs.ties.Guards.{guard_at, is_blocker};
 ghost use Rattle.chess_reach.specs.ties.Hold.{Captures, Holds, IsApart, IsBegun, IsQuestOf, post_at};
-ghost use Rattle.chess_reach.specs.ties.Ways.{IsChain, is_unfollowed, nowhere};
+ghost use Rattle.chess_reach.specs.ties.Ways.{IsChain, is_unfollowed, may_promote_to_unfollowed, nowhere};
 
 use crate::blocks::{Blocks, all_blockable, blocks_of};
-use crate::guards::{Guard, MEN, list_guards};
+use crate::guards::{Guard, MOST_GUARDS, list_guards};
 use crate::hold::{Ending, Post, Posts, Quest, can_hold, can_mate, narrowed};
 use crate::ways::{MOVES, chain_of};
 use crate::whereabouts::Whereabouts;
@@ -33,7 +33,7 @@ fn unheld_squares(king: Square, standing: Squares) -> Squares
 
 // Returns where the guards may end within `most` moves.
 fn first_posts(quest: &Quest, most: usize) -> Posts
-    requires count { quest.now.count ≤ MEN }
+    requires count { quest.now.count ≤ MOST_GUARDS }
     requires moves { most < MOVES }
     ensures { (i : ℕ) → i < quest.now.count
         → post_at result i ≡ record {
@@ -44,7 +44,7 @@ fn first_posts(quest: &Quest, most: usize) -> Posts
     let mut posts = [Post {
         squares: Whereabouts::nowhere(),
         moves: 0,
-    }; MEN];
+    }; MOST_GUARDS];
     for i in 0..quest.count {
         posts[i] = Post {
             squares: quest.guards[i].chain[most],
@@ -57,7 +57,7 @@ fn first_posts(quest: &Quest, most: usize) -> Posts
 // Keeps the mating king apart from the other, and returns the moves that are left of `most`; `None` if it
 // can't get away.
 fn keep_apart(quest: &Quest, posts: &mut Posts, most: usize) -> Option<usize>
-    requires count { quest.now.count ≤ MEN }
+    requires count { quest.now.count ≤ MOST_GUARDS }
     ensures { (men : List (Option Man)) (ends : Ends) (w theirs : ℕ)
         → Holds quest.now men posts.old w most theirs ends → IsApart quest.now ends
         → MatchOption result ⊥ (λ spare. Holds quest.now men posts.new w spare theirs ends) }
@@ -84,10 +84,10 @@ fn keep_apart(quest: &Quest, posts: &mut Posts, most: usize) -> Option<usize>
     Some(spare)
 }
 
-// Returns whether there may be a plan in which the king, a guard of its own square here, ends on the
-// quest's square, and captured men make at least `captured` moves.
+// Returns whether there may be a plan in which the king, described as a `Guard`, ends on the quest's
+// square, and captured men make at least `captured` moves.
 fn may_have_plan(quest: &Quest, king: &Guard, ours: usize, theirs: usize, captured: usize) -> bool
-    requires count { quest.now.count ≤ MEN }
+    requires count { quest.now.count ≤ MOST_GUARDS }
     requires moves { ours < MOVES }
     requires captured { captured ≤ theirs }
     ensures { (prey : ℕ) (p : Position) (ends : Ends)
@@ -108,7 +108,14 @@ fn may_have_plan(quest: &Quest, king: &Guard, ours: usize, theirs: usize, captur
     let moves = theirs - captured - steps;
     match quest.ending.goal {
         Goal::Mate => can_mate(quest, &posts, unheld, spare, moves),
-        Goal::Stalemate => can_hold(quest, &posts, &[Squares::MAX; MEN], unheld, spare, moves),
+        Goal::Stalemate => can_hold(
+            quest,
+            &posts,
+            &[Squares::MAX; MOST_GUARDS],
+            unheld,
+            spare,
+            moves,
+        ),
     }
 }
 
@@ -169,7 +176,7 @@ fn planned_part(
     theirs: usize,
     captured: usize,
 ) -> Squares
-    requires count { quest.old.count ≤ MEN }
+    requires count { quest.old.count ≤ MOST_GUARDS }
     requires moves { ours < MOVES }
     requires captured { captured ≤ theirs }
     ensures planned { (prey : ℕ) (p : Position) (k : ℕ) (ends : Ends)
@@ -202,14 +209,44 @@ fn may_lure(theirs: usize, prey: Squares, lures: Squares, rest: Squares) -> bool
     theirs != 0 && lures != prey && rest != 0
 }
 
+// Returns whether a promotion to this kind isn't followed.
+fn is_unfollowed(kind: Kind) -> bool
+    ensures { result ≡ is_unfollowed kind }
+{
+    match kind {
+        Kind::King
+        | Kind::Queen
+        | Kind::Rook
+        | Kind::Bishop
+        | Kind::Knight
+        | Kind::Pawn
+        | Kind::Grasshopper => false,
+        _ => true,
+    }
+}
+
+// Returns whether pawns may promote to this kind, and such a promotion isn't followed.
+fn may_promote_to_unfollowed(board: &Board, kind: Kind) -> bool
+    ensures { result ≡ may_promote_to_unfollowed board.now kind }
+{
+    is_unfollowed(kind) && board.may_promote(kind)
+}
+
+// Returns the first kind to which pawns may promote, where such a promotion isn't followed.
+fn unfollowed_promotion(board: &Board) -> Option<Kind>
+    ensures { result ≡ find (may_promote_to_unfollowed board.now) kinds }
+{
+    Kind::all()
+        .iter()
+        .copied()
+        .find(|kind| may_promote_to_unfollowed(board, *kind))
+}
+
 // Returns whether a pawn may promote to a kind whose promotion isn't followed.
 fn may_promote_unfollowed(board: &Board) -> bool
-    ensures none { result ≡ false → (k : Kind) → is_unfollowed k ≡ true
-        → may_promote board.now k ≡ false }
-    ensures some { result ≡ true → (k : Kind) × (is_unfollowed k ≡ true)
-        × (may_promote board.now k ≡ true) }
+    ensures { result ≡ is_some (find (may_promote_to_unfollowed board.now) kinds) }
 {
-    board.may_promote(Kind::Nightrider)
+    unfollowed_promotion(board).is_some()
 }
 
 // Returns the king of this colour on `from` as a guard, with where it can be within each number of moves up to
@@ -277,7 +314,8 @@ pub(crate) fn planned_squares(
 ) -> Squares
     requires { IsWellFormed board.now }
     ensures { (k : ℕ) (ends : Ends) → k < 64
-        → IsPlan ending.goal ending.standing_checks ending.are_reborn board.now mating ours theirs k ends
+        → IsPlan ending.goal ending.standing_checks ending.are_reborn board.now mating
+        ours theirs k ends
         → (bit_at squares k == 1) ≡ true → (bit_at result k == 1) ≡ true }
 {
     if ours >= MOVES - 1 || theirs >= MOVES || may_promote_unfollowed(board) {
@@ -298,7 +336,7 @@ pub(crate) fn planned_squares(
         colour: mating,
         king: from,
         count: 0,
-        guards: [Guard::unused(); MEN],
+        guards: [Guard::unused(); MOST_GUARDS],
         blockable,
     };
     match planned_near(board, &mut quest, &king, near, ours, theirs) {

@@ -19,7 +19,7 @@ use chess_attacks::unblocked::unblocked_reach;
 use chess_attacks::words::{contains, pop_first};
 use chess_core::{Colour, Kind, Man, Square, Squares};
 
-/// The greatest number of moves that is looked at, and one more.
+/// One more than the most moves of a plan.
 pub(crate) const MOVES: usize = 9;
 
 /// Where a man can be within each number of moves.
@@ -36,8 +36,7 @@ pub(crate) fn without_hops(kind: Kind) -> Kind
     }
 }
 
-// The squares of a file or two: those where a man that goes one or two files aside from the other edge would
-// arrive, if the board were a ring.
+// Edge files. A shift past one edge comes back on them at the other, so they are masked out.
 const FILE_A: Squares = 0x0101_0101_0101_0101;
 
 const FILE_H: Squares = 0x8080_8080_8080_8080;
@@ -104,8 +103,9 @@ fn spread_each(colour: Colour, kind: Kind, squares: Squares) -> Squares
     reached
 }
 
-// Returns from how many squares on it is taken for granted that men of this kind get everywhere. A rook or
-// queen on more than eight squares has moved already.
+// Returns the number of squares from which on such men are assumed to reach every square. A rook or queen
+// on more than eight squares has moved already. Another man that got from one square to more than 40 gets
+// to at least 56 with its next move.
 #[inline(always)]
 fn enough_squares(kind: Kind) -> u32 {
     match kind {
@@ -349,7 +349,8 @@ fn promoted_homes(colour: Colour, squares: Squares) -> Squares
 
 // Returns the squares, and those on which the man is reborn that is captured on them.
 fn with_homes(man: Man, at: Whereabouts) -> Whereabouts
-    ensures kept { (j : Kind) (t : ℕ) → has man.kind j t at ≡ true → has man.kind j t result ≡ true }
+    ensures kept { (j : Kind) (t : ℕ) → has man.kind j t at ≡ true
+        → has man.kind j t result ≡ true }
     ensures reborn { (are_reborn : Bool) → Rests are_reborn man at result }
 {
     let own = homes(man.colour, man.kind, at.unpromoted);

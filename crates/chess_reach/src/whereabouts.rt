@@ -90,7 +90,8 @@ impl Whereabouts {
     #[inline(always)]
     pub(crate) fn joined(&self, other: &Whereabouts) -> Whereabouts
         ensures first { (k j : Kind) (t : ℕ) → has k j t self.now ≡ true → has k j t result ≡ true }
-        ensures second { (k j : Kind) (t : ℕ) → has k j t other.now ≡ true → has k j t result ≡ true }
+        ensures second { (k j : Kind) (t : ℕ) → has k j t other.now ≡ true
+            → has k j t result ≡ true }
     {
         Whereabouts {
             unpromoted: self.unpromoted | other.unpromoted,

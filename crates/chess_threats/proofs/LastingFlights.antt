@@ -1,5 +1,5 @@
 -- Flights that one move can't take.
-use Rattle.chess_threats.proofs.Chess.{AreApproached, AreAttackers, AreGuarded, AreNear, Attackers, Bishop, Colour, IfSome, IsAttacker, IsLeft, IsMade, IsWellFormed, KeepsOne, Kind, King, LeaveOne, Man, Move, Option, Pawn, Position, Rook, RuleSet, Some, [], after_well_formed, all_triples, and_parts, arith, arrival_needed, arrived, arriving_colour, arriving_man, bit_and, bit_at, bit_not, bit_or, captures_are_reborn, cases_Bool, castle_of, eq-eqb, eqb-true, every_square_on, false, false_by, false_from_ne_true, false≢true, find, find_first, inl, inr, is_arrival_free, is_castling, is_promoting, is_pseudo_legal, is_square, king_after, king_is_after, king_square, length, made, maker, man_on, mates, mates_after, may_go_aimed, off_left, off_right, off_zero, on_board, on_first, on_left, on_right, or_lt, other, other_twice, position_after, range_with_len, reaches_as, refl, rules, same_colour-refl, same_kind, same_kind-true, simple_after, subst, sym, triple_at, true, w64, word, word_has, ℕ, ◌<◌, ◌==◌, ◌^◌, ◌∙◌, ◌≡◌, ◌≢◌, ByKind, value_for, Bool}
+use Rattle.chess_threats.proofs.Chess.{AreAttackers, AreGuarded, AreNear, Attackers, Bishop, Colour, IfSome, IsAttacker, IsLeft, IsMade, IsWellFormed, KeepsOne, Kind, King, LeaveOne, Man, Move, Option, Pawn, Position, Rook, RuleSet, Some, [], after_well_formed, all_triples, and_parts, arith, arrival_needed, arrived, arriving_colour, arriving_man, bit_and, bit_at, bit_not, bit_or, captures_are_reborn, cases_Bool, castle_of, eq-eqb, eqb-true, every_square_on, false, false_by, false_from_ne_true, false≢true, find, find_first, inl, inr, is_arrival_free, is_castling, is_promoting, is_pseudo_legal, is_square, king_after, king_is_after, king_square, length, made, maker, man_on, mates, mates_after, may_go_aimed, off_left, off_right, off_zero, on_board, on_first, on_left, on_right, or_lt, other, other_twice, position_after, range_with_len, reaches_as, refl, rules, same_colour-refl, same_kind, same_kind-true, simple_after, subst, sym, triple_at, true, w64, word, word_has, ℕ, ◌<◌, ◌==◌, ◌^◌, ◌∙◌, ◌≡◌, ◌≢◌, ByKind, value_for, Bool}
 use Rattle.chess_flights.proofs.Becoming.{becomes, counted_left, promotes_still}
 use Rattle.chess_flights.proofs.KindByKind.{HoldsOf, man_is, of_all, of_kind}
 use Rattle.chess_core.specs.Position.{may_promote}
@@ -110,13 +110,6 @@ pub left_first : (squares r o t : ℕ) (x : Man) → AreReached x t r → r < 2 
     → IfSome found (λ f. IsLeft squares x t f)
 left_first squares r o t x are rfits ofits only found e =
     grind (arith, left_on, find_first (λ s. bit_at (bit_and squares (bit_not w64 (bit_or r o))) s == 1) 0 64)
-
--- for `taking_squares`: from the other squares the man doesn't take this one, it is left
-pub untaken_left : (w a o f t : ℕ) (x : Man) → AreApproached x f a → o ≡ word (λ q. is_square (Some f) q) → f < 64 → (bit_at w f == 1) ≡ true → t < 64
-    → (bit_at (bit_or a o) t == 1) ≡ false → IsLeft w x t f
-untaken_left w a o f t x are only fits on small off =
-    let apart : f ≢ t = λ e. grind (arith, off_right a o t off, word_has _ o t only small, eq-eqb) in
-    search (rules, apart, are.inside, off_left a o t off, false_from_ne_true, false≢true)
 
 -- for `leave_one`: men that don't castle and leave one square wherever a kind's targets are
 pub all_leave : (a : Attackers) (o : OpenTargets) (w : ℕ) → AreOpenTargets a o → ((s : ℕ) → (bit_at a.squares.kings s == 1) ≡ true → (s ≢ 4) × (s ≢ 60))

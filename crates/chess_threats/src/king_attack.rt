@@ -139,7 +139,8 @@ struct StandOn<'a> {
 impl ForKind<Squares> for StandOn<'_> {
     type Out = bool;
 
-    ghost holds = { λ f k squares yes. yes ≡ true → squares ≡ squares_of f.board.now.men f.colour k };
+    ghost holds = { λ f k squares yes. yes ≡ true
+        → squares ≡ squares_of f.board.now.men f.colour k };
 
     #[inline(always)]
     fn of(&self, kind: Kind, squares: Squares) -> bool {

@@ -14,7 +14,7 @@ ghost use Rattle.chess_attacks.specs.ties.Lines.{AreReached};
 use chess_attacks::unblocked::unblocked_reach;
 use chess_attacks::words::{highest, next_bit, only, pop_first};
 use chess_core::{Board, Colour, Kind, LAST_RANKS, Man, Move, Square, Squares};
-use chess_flights::approach_squares::open_approaches;
+use chess_flights::approach_squares::barring_squares;
 use chess_flights::attackers::Attackers;
 use chess_flights::by_kind::{ByKind, ForKind, for_all, for_each_kind, is_for_all, union_of};
 use chess_rules::unplayed::unblocked_targets;
@@ -155,17 +155,6 @@ fn never_castle(men: &Attackers) -> bool
     men.squares.kings & KINGS_HOMES == 0
 }
 
-// Returns the squares where the man takes this flight: the flight itself, and the squares from which it
-// could reach the flight on some board.
-#[tactic(auto, using(crate::proofs::LastingFlights::untaken_left))]
-fn taking_squares(man: Man, flight: Square) -> Squares
-    ensures { (w t : ℕ) → (bit_at w flight == 1) ≡ true → t < 64 → (bit_at result t == 1) ≡ false
-        → IsLeft w man t flight }
-{
-    flight.show_below_64();
-    open_approaches(man, flight) | only(Some(flight))
-}
-
 // Returns whether one of the squares remains wherever the man arrives on a target.
 #[tactic(auto, using(chess_attacks::proofs::HoldTaken::taken_all, chess_attacks::proofs::HoldTaken::taken_none, chess_attacks::proofs::HoldTaken::rest_falls))]
 fn leaves_one_each(squares: Squares, man: Man, targets: Squares) -> bool
@@ -191,12 +180,12 @@ fn leaves_one_among(squares: Squares, man: Man, targets: Squares) -> bool
     let Some(first) = next_bit(squares, 0) else {
         return false;
     };
-    let taken = targets & taking_squares(man, first);
+    let taken = targets & barring_squares(man, first);
     if taken == 0 {
         return true;
     }
     let last = highest(squares);
-    leaves_one_each(squares, man, taken & taking_squares(man, last))
+    leaves_one_each(squares, man, taken & barring_squares(man, last))
 }
 
 // Whether one of `squares` remains wherever among its targets a man of a kind arrives; `true` without
@@ -211,8 +200,9 @@ pub(crate) struct LeavesOne {
 impl ForKind<Squares> for LeavesOne {
     type Out = bool;
 
-    ghost holds = { λ l k targets yes. yes ≡ true → (t : ℕ) → t < 64 → (bit_at targets t == 1) ≡ true
-        → (f : ℕ) × IsLeft l.squares (record { colour = l.colour; kind = k }) t f };
+    ghost holds = { λ l k targets yes. yes ≡ true → (t : ℕ) → t < 64
+        → (bit_at targets t == 1) ≡ true → (f : ℕ)
+        × IsLeft l.squares (record { colour = l.colour; kind = k }) t f };
 
     #[inline(always)]
     fn of(&self, kind: Kind, targets: Squares) -> bool {

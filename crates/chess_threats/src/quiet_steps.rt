@@ -222,7 +222,7 @@ impl QuietSteps {
 
     // Returns the squares where the arrival of the man on `from` may leave no quiet step.
     #[tactic(auto, using(chess_flights::proofs::QuietFilter::nothing_known))]
-    fn loud_squares<R: Rules>(&self, board: &Board, from: Square) -> Squares
+    fn squares_without_quiet_step<R: Rules>(&self, board: &Board, from: Square) -> Squares
         requires well_formed { IsWellFormed board.now }
         ensures { (m : Move) → is_legal R.rule board.now m ≡ true → m.from ≡ from
             → (bit_at result m.to == 1) ≡ false → must_reply_with_mate R.rule board.now m ≡ false }
@@ -254,7 +254,7 @@ impl SquareFilter for QuietSteps {
     ghost fits = { λ steps rule p. ⊤ };
 
     fn kept_squares<R: Rules>(&mut self, board: &Board, from: Square, squares: Squares) -> Squares {
-        squares & self.loud_squares::<R>(board, from)
+        squares & self.squares_without_quiet_step::<R>(board, from)
     }
 
     fn legal_squares<R: Rules>(

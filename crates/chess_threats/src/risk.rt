@@ -137,7 +137,8 @@ fn critical_of_going(
     targets: Squares,
 ) -> Squares
     ensures { (t : ℕ) → t < 64 → (bit_at targets t == 1) ≡ true → (z : Man)
-        → MayBecome false man t z → (d : ℕ) × AreLaterHurdles king_attack.now king_zone.now.king from d
+        → MayBecome false man t z
+        → (d : ℕ) × AreLaterHurdles king_attack.now king_zone.now.king from d
         × LeavesUntaken d king_zone.now.king near king_attack.now.enemies result z t }
 {
     let hurdles = later_hurdles(king_attack, king_zone.king, from);
@@ -242,7 +243,8 @@ fn risk_of_going(
     targets: Squares,
 ) -> Risk
     ensures { (a b t : ℕ) → a < 64 → b < 64 → IsOff king_attack.now.hurdles result a b → t < 64
-        → (bit_at reached t == 1) ≡ true → IsMet king_attack.now king_zone.now man from targets a b t }
+        → (bit_at reached t == 1) ≡ true
+        → IsMet king_attack.now king_zone.now man from targets a b t }
 {
     king_zone.king.show_below_64();
     let region = king_zone.near | king_zone.captures | only(Some(king_zone.king));

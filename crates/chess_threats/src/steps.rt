@@ -114,7 +114,7 @@ fn reached_squares(king_attack: &KingAttack, region: Squares) -> Squares
 // Returns whether the attackers' reach decides which steps are legal: the attackers are few, with no
 // grasshopper among them.
 #[tactic(auto, using(crate::proofs::ExactSteps::none_hops))]
-fn reports_steps(king_attack: &KingAttack) -> bool
+fn reach_decides_steps(king_attack: &KingAttack) -> bool
     ensures { result ≡ true → AreUnhopping king_attack.now.men }
 {
     king_attack.men.squares.grasshoppers == 0 && king_attack.enemies.count_ones() <= MOST_ATTACKERS
@@ -123,7 +123,8 @@ fn reports_steps(king_attack: &KingAttack) -> bool
 // Returns the squares next to the king; in Circe only the empty ones.
 #[tactic(auto, using(chess_attacks::proofs::Bits::word_has))]
 fn plain_squares<R: Rules>(king_attack: &KingAttack) -> Squares
-    ensures { (t : ℕ) → t < 64 → (bit_at result t == 1) ≡ true → IsPlainStep R.rule king_attack.now t }
+    ensures { (t : ℕ) → t < 64 → (bit_at result t == 1) ≡ true
+        → IsPlainStep R.rule king_attack.now t }
 {
     let near = king_leaps(king_attack.king);
     if R::captures_are_reborn() {
@@ -139,7 +140,10 @@ fn plain_squares<R: Rules>(king_attack: &KingAttack) -> Squares
 pub(crate) fn exact_steps<R: Rules>(king_attack: &KingAttack, squares: Squares) -> Option<Squares>
     ensures { IfSome result (λ w. AreExactSteps R.rule king_attack.now squares w) }
 {
-    if squares.count_ones() < FEW_STEPS || R::like_men_paralyse() || !reports_steps(king_attack) {
+    if squares.count_ones() < FEW_STEPS
+        || R::like_men_paralyse()
+        || !reach_decides_steps(king_attack)
+    {
         return None;
     }
     if squares & !plain_squares::<R>(king_attack) != 0 {
@@ -159,7 +163,7 @@ fn unbarred_steps<R: Rules>(king_attack: &KingAttack, steps: Squares) -> Squares
     if steps.count_ones() < FEW_STEPS || R::like_men_paralyse() {
         return steps;
     }
-    if !R::captures_are_reborn() && reports_steps(king_attack) {
+    if !R::captures_are_reborn() && reach_decides_steps(king_attack) {
         return steps;
     }
     steps & (king_attack.hurdles | !reached_squares(king_attack, steps))

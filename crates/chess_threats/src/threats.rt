@@ -111,11 +111,13 @@ fn critical_of(
     requires king_attack { IsKingAttack king_attack.now }
     requires whole { IsWhole king_attack.now }
     requires risk { IfSome risk.old (λ r. AreThreats king_attack.now r) }
-    requires following { IfSome following.old (λ b. IsRiskAfterLeaving king_attack.now b.from b.risk) }
+    requires following { IfSome following.old
+        (λ b. IsRiskAfterLeaving king_attack.now b.from b.risk) }
     ensures safe { (t : ℕ) → (bit_at squares t == 1) ≡ true → (bit_at result t == 1) ≡ false
         → IsSafeMove king_attack.now from t }
     ensures risk { IfSome risk.new (λ r. AreThreats king_attack.now r) }
-    ensures following { IfSome following.new (λ b. IsRiskAfterLeaving king_attack.now b.from b.risk) }
+    ensures following { IfSome following.new
+        (λ b. IsRiskAfterLeaving king_attack.now b.from b.risk) }
 {
     if squares == 0 {
         return 0;

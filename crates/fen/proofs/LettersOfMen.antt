@@ -1,13 +1,14 @@
 -- The letters of men: they name a man, in brackets or not.
-use Rattle.fen.proofs.Basics.{Bool, List, None, Option, Some, [], ap, arith, cond, false, not, sym, true, ℕ, ◌-◌, ◌<◌, ◌∙◌, ◌∷◌, ◌≡◌, ◌≤◌, cases_Bool, get_or}
+use Rattle.fen.proofs.Basics.{Bool, List, None, Option, Some, [], ap, arith, false, sym, true, ℕ, ◌∙◌, ◌∷◌, ◌≡◌, ◌≤◌, cases_Bool}
+use Rattle.std.specs.Char.{to_ascii_uppercase}
 use Rattle.std.specs.Prelude.{MatchOption, find, unwrap_or}
-use Rattle.std.proofs.lemmas.Bool.{false≢true}
+use Rattle.chess_core.specs.Letters.{capital_letter}
 use Rattle.chess_core.specs.declared.man.Man.{Man}
 use Rattle.chess_core.specs.declared.man.Colour.{Colour}
 use Rattle.chess_core.specs.declared.man.Colour.TheVariants.{White, Black}
 use Rattle.chess_core.specs.declared.man.Kind.{Kind}
 use Rattle.chess_core.specs.declared.man.Kind.TheVariants.{King}
-use Rattle.chess_core.specs.Position.{kind_number, kinds}
+use Rattle.chess_core.specs.Position.{kinds}
 use Rattle.fen.specs.Letters.{is_bracketed, letter_in, letter_of, small_letter}
 use Rattle.fen.specs.ties.Reading.{is_written}
 
@@ -18,6 +19,10 @@ of c k = record { colour = c; kind = k }
 -- small letters are letters
 pub small_letters : (k : Kind) → (97 ≤ small_letter k) × (small_letter k ≤ 122)
 small_letters k = grind arith
+
+-- the capital of a small letter
+pub capital_of : (k : Kind) → to_ascii_uppercase (small_letter k) ≡ capital_letter (small_letter k)
+capital_of k = grind arith
 
 -- letters come after all digits and marks
 large : (c : Colour) (k : Kind) → 65 ≤ letter_in c (small_letter k)

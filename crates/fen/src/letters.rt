@@ -23,13 +23,14 @@ pub(crate) fn is_bracketed(kind: Kind) -> bool
 }
 
 /// Returns the letter of a man: a capital for White, a small letter for Black.
+#[tactic(auto, using(crate::proofs::LettersOfMen::capital_of))]
 pub(crate) fn letter_of(man: Man) -> u8
     ensures value { result ≡ letter_of man }
     ensures small { result < 128 }
 {
     let small = small_letter(man.kind);
     match man.colour {
-        Colour::White => small - 32,
+        Colour::White => small.to_ascii_uppercase(),
         Colour::Black => small,
     }
 }

@@ -52,7 +52,7 @@ fn man_of(letter: u8, brackets: bool) -> Option<Man>
         (λ man. (letter ≡ letter_of man) × (is_bracketed man.kind ≡ brackets)) }
 {
     let (colour, small) = if letter < b'a' {
-        (Colour::White, letter + 32)
+        (Colour::White, letter.to_ascii_lowercase())
     } else {
         (Colour::Black, letter)
     };
@@ -99,8 +99,8 @@ fn begins_with_digit(text: &[u8]) -> bool
     }
 }
 
-// Reads one square. Before the text this many empty squares are still to come. Returns the square, and what
-// is then left.
+// Reads one square. `empty` is how many empty squares the last digit still stands for. Returns the
+// square, how many are still to come after it, and the text after it.
 fn next_square(empty: u8, text: &[u8]) -> Result<(Option<Man>, u8, &[u8]), NotFen>
     requires { IsLeft empty text.now }
     ensures { MatchResult result (λ found. FindsSquare empty text.now found.0 found.1 found.2.now)
@@ -156,7 +156,8 @@ fn set(diagram: &mut Diagram, after: u8, found: Option<Man>)
     requires empty { man_on diagram.old.men (square_before after) ≡ None }
     ensures size { length diagram.new.men ≡ 64 }
     ensures here { man_on diagram.new.men (square_before after) ≡ found }
-    ensures others { (s : ℕ) → (s ≡ square_before after → ⊥) → man_on diagram.new.men s ≡ man_on diagram.old.men s }
+    ensures others { (s : ℕ) → (s ≡ square_before after → ⊥)
+        → man_on diagram.new.men s ≡ man_on diagram.old.men s }
 {
     let square = square_before(after);
     if let Some(man) = found {

@@ -24,7 +24,8 @@ pub(crate) fn read_turn(text: &[u8]) -> Result<(Colour, &[u8]), NotFen>
 
 // Adds the rights of one castling, if it is allowed.
 fn with_castling(rights: Unmoved, is_allowed: bool, king: Square, rook: Square) -> Unmoved
-    ensures { result ≡ (if is_allowed then with_unmoved (with_unmoved rights king) rook else rights) }
+    ensures { result ≡ (if is_allowed then with_unmoved (with_unmoved rights king) rook
+        else rights) }
 {
     if is_allowed {
         rights.with(king).with(rook)
@@ -46,7 +47,8 @@ fn rights_of(h1: bool, a1: bool, h8: bool, a8: bool) -> Unmoved
 
 // Reads the castling rights and the blank after them.
 pub(crate) fn read_rights(text: &[u8]) -> Result<(Unmoved, &[u8]), NotFen>
-    ensures { MatchResult result (λ found. Finds HasFenRights rights_before text.now found.0 found.1.now)
+    ensures { MatchResult result
+        (λ found. Finds HasFenRights rights_before text.now found.0 found.1.now)
         (λ _. FindsNone HasFenRights rights_before text.now) }
 {
     let (h1, rest) = letter_at(text, b'K');

@@ -1,5 +1,5 @@
 -- The last half-moves, for mate, tried without frames: their value, and how many positions count.
-use Rattle.pop_battle.proofs.Words.{AreRemoved, Battle, Bool, Direct, HasCounted, IfSome, Killer, LegalPlace, List, Mate, Move, None, Option, Order, SkipsMoves, Position, RuleSet, Selfmate, Some, [], arith, can_move, chess, cond, eqb, false, filter, is_goal_reached, is_legal, is_mating, is_some, joined_value, length, list_all, list_any, mates_after, min, moves, moves_ahead, moves_after, must_reply_with_mate, nat_tests, not, position_after, refl, rules, attacker_to_move, smallest_below, smallest_tree, true, value, walk_count, ℕ, ◌&&◌, ◌++◌, ◌+◌, ◌-◌, ◌<◌, ◌^◌, ◌∷◌, ◌≡◌, ◌≤◌, suc, sym, walk_among, ◌∙◌, Aim, mates_after-are}
+use Rattle.pop_battle.proofs.Words.{AreRemoved, Battle, Bool, Direct, HasCounted, IfSome, Killer, LegalPlace, List, Mate, Move, None, Option, Order, SkipsMoves, Position, RuleSet, SelfMate, Some, [], arith, can_move, chess, cond, eqb, false, filter, is_goal_reached, is_legal, is_mating, is_some, joined_value, length, list_all, list_any, mates_after, min, moves, moves_ahead, moves_after, must_reply_with_mate, nat_tests, not, position_after, refl, rules, attacker_to_move, smallest_below, smallest_tree, true, value, walk_count, ℕ, ◌&&◌, ◌++◌, ◌+◌, ◌-◌, ◌<◌, ◌^◌, ◌∷◌, ◌≡◌, ◌≤◌, suc, sym, walk_among, ◌∙◌, Aim, mates_after-are}
 use Rattle.pop_battle.proofs.Boards.{after_start, each_one, unreached, walk_count-some}
 use Rattle.pop_battle.proofs.SmallestTrees.{tree-one, trees-end, trees-next, trees-start}
 use Rattle.pop_battle.proofs.Tests.{any-start, fewest-start, first, rest-start, walk-next, walk_count-start}
@@ -7,7 +7,7 @@ use Rattle.pop_battle.proofs.Values.{value-forced, value-open, value-stuck}
 use Rattle.pop_battle.specs.ties.Calls.{Finds}
 
 -- Black needn't mate where some move doesn't mate
-pub one_quiet : (rule : RuleSet) (q : Position) → list_all (is_mating rule q) (moves rule q) ≡ false → value Selfmate (chess Mate rule) 1 q ≡ false
+pub one_quiet : (rule : RuleSet) (q : Position) → list_all (is_mating rule q) (moves rule q) ≡ false → value SelfMate (chess Mate rule) 1 q ≡ false
 one_quiet rule q quiet = grind (arith, value-forced)
 
 none_mates : (test : Move → Bool) (ms : List Move) → filter test ms ≡ [] → (not (eqb (length ms) 0) && list_all test ms) ≡ false
@@ -15,8 +15,8 @@ none_mates test [] none = refl
 none_mates test (m ∷ ms) none = grind arith
 
 -- Black needn't mate where no move mates
-pub no_mates : (rule : RuleSet) (q : Position) → mates_after rule q 0 ≡ [] → value Selfmate (chess Mate rule) 1 q ≡ false
-no_mates rule q none = rw (value-forced Selfmate (chess Mate rule) q refl) (none_mates (is_mating rule q) (moves rule q) (rw (← after_start rule q, ← mates_after-are rule q 0) none))
+pub no_mates : (rule : RuleSet) (q : Position) → mates_after rule q 0 ≡ [] → value SelfMate (chess Mate rule) 1 q ≡ false
+no_mates rule q none = rw (value-forced SelfMate (chess Mate rule) q refl) (none_mates (is_mating rule q) (moves rule q) (rw (← after_start rule q, ← mates_after-are rule q 0) none))
 
 -- for `forces_mate`: where Black needn't mate
 pub ruleset unforced = (one_quiet, no_mates)
@@ -63,8 +63,8 @@ module _ {battle : Battle} {rule : RuleSet} {t : ℕ} {p : Position} {v : Bool} 
     goes_on e = grind (arith, trees-next battle (chess Mate rule) t p m later, walk-next rule (aim_of battle) t p ahead later m here)
 
 module _ {rule : RuleSet} {p : Position} {v : Bool} {before least most : ℕ} where
-  removed_on : (over ahead : List Move) (counted count : ℕ) → AreTried Selfmate rule 1 p (over ++ ahead) v before least most counted
-      → AreRemoved (must_reply_with_mate rule p) counted count over → AreTried Selfmate rule 1 p ahead v before least most count
+  removed_on : (over ahead : List Move) (counted count : ℕ) → AreTried SelfMate rule 1 p (over ++ ahead) v before least most counted
+      → AreRemoved (must_reply_with_mate rule p) counted count over → AreTried SelfMate rule 1 p ahead v before least most count
   removed_on [] ahead counted count a taken =
       let counts = taken.counts in
       record { joined = a.joined; fits = omega (arith, a.fits, counts); tried = omega (arith, a.tried, counts) }
@@ -76,7 +76,7 @@ module _ {rule : RuleSet} {p : Position} {v : Bool} {before least most : ℕ} wh
 
   -- moves that are skipped don't decide: the others are still to be tried
   pub skipped_on : {place counted count : ℕ} {ahead : List Move} → SkipsMoves rule p place ahead (AreRemoved (must_reply_with_mate rule p) counted count)
-      → AreTried Selfmate rule 1 p (moves_after rule p place) v before least most counted → AreTried Selfmate rule 1 p ahead v before least most count
+      → AreTried SelfMate rule 1 p (moves_after rule p place) v before least most counted → AreTried SelfMate rule 1 p ahead v before least most count
   skipped_on n a = removed_on n.over _ _ _ (rw (n.skipped, n.here) at a) n.fits
 
 -- nothing is counted only where nothing was before, and no move is skipped

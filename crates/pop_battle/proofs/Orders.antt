@@ -1,5 +1,5 @@
 -- The moves of a position, stage by stage, are all its moves in another order.
-use Rattle.pop_battle.proofs.Words.{Aimed, Bool, Earlier, Killer, List, Move, Order, Others, Position, RuleSet, [], all_moves_of, ap, append-nil, arith, belongs, between-here, between-none, between-past, between-skip, cases_Bool, cases_lt, comes_early, cond, eqb, false, filter, filter_agree, inl, inr, is_at, moves_ahead, moves_after, met_after-end, met_after-here, met_after-skip, moves_between, moves_here, moves_later, nat_tests, not, place_of_triple, refl, rules, suc, sym, true, zero, ℕ, ◌&&◌, ◌||◌, ◌++◌, ◌+◌, ◌-◌, ◌<◌, ◌∙◌, ◌∷◌, ◌≡◌, ◌≤◌, append_assoc, all_triples, legal_moves}
+use Rattle.pop_battle.proofs.Words.{Aimed, Bool, Earlier, Killer, List, Move, Order, Others, Position, RuleSet, [], all_moves_of, ap, append-nil, arith, belongs, between-here, between-none, between-past, between-skip, cases_Bool, cases_lt, comes_early, eqb, false, filter, filter_agree, is_at, moves_ahead, moves_after, met_after-end, met_after-here, met_after-skip, moves_between, moves_here, moves_later, nat_tests, not, place_of_triple, refl, rules, suc, true, zero, ℕ, ◌&&◌, ◌||◌, ◌++◌, ◌+◌, ◌-◌, ◌<◌, ◌∙◌, ◌∷◌, ◌≡◌, ◌≤◌, append_assoc, all_triples, legal_moves}
 use Rattle.chess_mates.specs.ties.Aims.{aims_at_king}
 use Rattle.pop_battle.specs.declared.frame.Early.TheVariants.{AimedMoves, NoMoves}
 use Rattle.pop_battle.proofs.Boards.{after_start}
@@ -100,5 +100,5 @@ aimed_filtered p order early (m ∷ ms) = search (rules, aimed_filtered p order 
 -- for `place_before`: what is ahead at the start of each stage
 pub ruleset first_place = (before_killer, before_earlier, after_earlier, after_start)
 
--- for `move_stage_after`: what is ahead after each stage
-pub ruleset next_move_stage = (later_aimed, append-nil)
+-- for `stage_after`: what is ahead after each stage
+pub ruleset next_stage = (later_aimed, append-nil)

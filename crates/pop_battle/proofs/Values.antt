@@ -1,5 +1,5 @@
 -- The value of a position from the values after its moves.
-use Rattle.pop_battle.proofs.Words.{Battle, Game, Selfmate, arith, can_move, every_move, false, joined_value, refl, rules, attacker_to_move, some_move, true, value, ℕ, ◌%◌, ◌&&◌, ◌<◌, ◌≡◌, and_parts, nat_tests}
+use Rattle.pop_battle.proofs.Words.{Battle, Game, SelfMate, arith, can_move, every_move, false, joined_value, refl, rules, attacker_to_move, some_move, true, value, ℕ, ◌%◌, ◌&&◌, ◌<◌, ◌≡◌, and_parts, nat_tests}
 use Rattle.pop_stipulation.specs.declared.stipulation.Battle.TheVariants.{Direct}
 use Rattle.std.specs.Prelude.{◌==◌}
 use Rattle.std.proofs.lemmas.List.{nil_from_length}
@@ -11,7 +11,7 @@ module _ {P M : Type 0} (battle : Battle) (game : Game P M) where
   value-mates p is = rw is refl
 
   -- the last half-move of a selfmate is forced
-  pub value-forced : (p : P) → battle ≡ Selfmate → value battle game 1 p ≡ (can_move game p && every_move game game.goal p)
+  pub value-forced : (p : P) → battle ≡ SelfMate → value battle game 1 p ≡ (can_move game p && every_move game game.goal p)
   unfolding value
   value-forced p is = rw is refl
 

@@ -33,7 +33,7 @@ pub use Rattle.pop_stipulation.specs.declared.stipulation.Goal.TheVariants.{Mate
 pub use Rattle.pop_battle.specs.Chess.{chess, is_goal_reached}
 pub use Rattle.pop_battle.specs.Game.{Game, can_move, every_move, some_move}
 pub use Rattle.pop_stipulation.specs.declared.stipulation.Battle.{Battle}
-pub use Rattle.pop_stipulation.specs.declared.stipulation.Battle.TheVariants.{Direct, Selfmate}
+pub use Rattle.pop_stipulation.specs.declared.stipulation.Battle.TheVariants.{Direct, SelfMate}
 pub use Rattle.pop_battle.specs.declared.frame.MoveStage.TheVariants.{Aimed, Earlier, Killer, Others}
 pub use Rattle.pop_battle.specs.ties.Counts.{HasCounted, decided_by}
 unfoldable pub use Rattle.pop_battle.specs.Walks.{walk_count}

@@ -10,7 +10,7 @@ ghost use Rattle.pop_stipulation.specs.declared.stipulation.Goal.TheVariants.{Ma
 ghost use Rattle.pop_events.specs.Shown.{castling_side, mark_of, reborn_man, shown_of};
 ghost use Rattle.pop_battle.specs.Chess.{chess, is_impossible, set_start};
 ghost use Rattle.pop_battle.specs.Game.{can_move as has_move, some_move};
-ghost use Rattle.pop_battle.specs.declared.chess.Reached.TheVariants.{Surely};
+ghost use Rattle.pop_battle.specs.declared.chess.Reached.TheVariants.{Certainly};
 ghost use Rattle.pop_battle.specs.ties.Calls.{IsOnMate};
 ghost use Rattle.pop_battle.specs.ties.Marks.{is_for_mate};
 
@@ -142,7 +142,7 @@ pub(crate) fn mark_of<R: Rules>(goal: Goal, board: &mut Board) -> Mark
 /// Whether the goal is known to be reached in a position.
 #[derive(Clone, Copy, Debug)]
 pub enum Reached {
-    Surely,
+    Certainly,
     Perhaps,
 }
 
@@ -150,14 +150,14 @@ pub enum Reached {
 #[tactic(auto, unfolding(pop_events::specs::Shown::mark_of, chess_rules::specs::Legal::is_mate, chess_rules::specs::Legal::is_stalemate))]
 pub fn mark_after<R: Rules>(goal: Goal, reached: Reached, board: &mut Board) -> Mark
     requires well_formed { IsWellFormed board.old }
-    requires reached { reached ≡ Surely → (chess goal R.rule).goal board.old ≡ true }
+    requires reached { reached ≡ Certainly → (chess goal R.rule).goal board.old ≡ true }
     ensures unchanged { board.new ≡ board.old }
     ensures mark { result ≡ mark_of goal R.rule board.old }
 {
     match (reached, goal) {
         (Reached::Perhaps, _) => mark_of::<R>(goal, board),
-        (Reached::Surely, Goal::Mate) => Mark::Mate,
-        (Reached::Surely, Goal::Stalemate) => Mark::Stalemate,
+        (Reached::Certainly, Goal::Mate) => Mark::Mate,
+        (Reached::Certainly, Goal::Stalemate) => Mark::Stalemate,
     }
 }
 

@@ -55,7 +55,7 @@ impl KeptThreats {
     }
 
     /// Returns whether the threats in the board's position rule out that a reply to this move mates;
-    /// `false` proves nothing. Keeps the threats for the position's other moves.
+    /// `false` says nothing. Keeps the threats for the position's other moves.
     pub fn rule_out_mate<R: Rules>(&mut self, board: &Board, m: Move) -> bool
         requires well_formed { IsWellFormed board.now }
         requires legal { is_legal R.rule board.now m ≡ true }

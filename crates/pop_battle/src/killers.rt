@@ -33,7 +33,8 @@ impl Killers {
 
     /// Returns the killer for a position with `left` half-moves left; the start for a selfmate.
     pub fn of(&self, battle: Battle, left: usize) -> MovePlace
-        ensures { battle ≡ Direct → left < MOST_HALF_MOVES → result ≡ slice_index_or self.now.places left 0 }
+        ensures { battle ≡ Direct → left < MOST_HALF_MOVES
+            → result ≡ slice_index_or self.now.places left 0 }
     {
         if battle == Battle::Direct && left < MOST_HALF_MOVES {
             self.places[left]
@@ -44,7 +45,8 @@ impl Killers {
 
     /// Returns the second killer for a position with `left` half-moves left; the start for a selfmate.
     pub fn earlier(&self, battle: Battle, left: usize) -> MovePlace
-        ensures { battle ≡ Direct → left < MOST_HALF_MOVES → result ≡ slice_index_or self.now.earlier left 0 }
+        ensures { battle ≡ Direct → left < MOST_HALF_MOVES
+            → result ≡ slice_index_or self.now.earlier left 0 }
     {
         if battle == Battle::Direct && left < MOST_HALF_MOVES {
             self.earlier[left]
@@ -65,7 +67,8 @@ impl Killers {
     /// Records a killer for `left` half-moves; if it differs from the previous one, that becomes the
     /// second.
     pub fn put(&mut self, left: usize, place: MovePlace)
-        ensures last { left < MOST_HALF_MOVES → self.new.places ≡ slice_set self.old.places left place }
+        ensures last { left < MOST_HALF_MOVES
+            → self.new.places ≡ slice_set self.old.places left place }
         ensures earlier { left < MOST_HALF_MOVES → self.new.earlier
             ≡ (if slice_index_or self.old.places left 0 == place then self.old.earlier
             else slice_set self.old.earlier left (slice_index_or self.old.places left 0)) }

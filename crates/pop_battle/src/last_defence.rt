@@ -137,8 +137,8 @@ fn value_by_trial<R: Rules>(board: &mut Board, search_state: &mut SearchState) -
     true
 }
 
-// Returns whether Black surely has a legal move after which its king keeps a flight, whatever White plays;
-// `false` proves nothing. Tries the king's moves last.
+// Returns whether Black certainly has a legal move after which its king keeps a flight, whatever White plays;
+// `false` says nothing. Tries the king's moves last.
 #[inline(never)]
 fn keeps_flight<R: Rules>(board: &mut Board, king: Square) -> bool
     requires well_formed { IsWellFormed board.old }
@@ -169,9 +169,9 @@ fn are_few_men(board: &Board) -> bool {
     attackers.count_ones() <= MOST_ATTACKERS && defenders.count_ones() <= MOST_DEFENDERS
 }
 
-/// Returns whether Black surely has a defence after which its king keeps a flight; `false` proves nothing.
+/// Returns whether Black certainly has a defence after which its king keeps a flight; `false` says nothing.
 #[inline(always)]
-fn surely_escapes<R: Rules>(board: &mut Board) -> bool
+fn certainly_escapes<R: Rules>(board: &mut Board) -> bool
     requires well_formed { IsWellFormed board.old }
     ensures unchanged { board.new ≡ board.old }
     ensures defence { result ≡ true
@@ -187,7 +187,7 @@ fn surely_escapes<R: Rules>(board: &mut Board) -> bool
 }
 
 /// Returns the value of a position with two half-moves left in a direct mate. Counts two positions if Black
-/// surely escapes, otherwise the positions that it tries.
+/// certainly escapes, otherwise the positions that it tries.
 #[inline(always)]
 pub(crate) fn value_of_last_defence<R: Rules>(
     board: &mut Board,
@@ -197,7 +197,7 @@ pub(crate) fn value_of_last_defence<R: Rules>(
     ensures { EvaluatesMate R.rule Direct 2 board.old board.new search_state.old.opened
         search_state.new.opened result }
 {
-    if surely_escapes::<R>(board) {
+    if certainly_escapes::<R>(board) {
         search_state.opened = search_state.opened.saturating_add(2);
         return false;
     }

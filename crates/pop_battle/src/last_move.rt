@@ -7,7 +7,7 @@ ghost use Rattle.chess_rules.specs.ties.Places.{IsPlaceIn, moves_after};
 ghost use Rattle.chess_flights.specs.ties.QuietSteps.{must_reply_with_mate};
 ghost use Rattle.pop_stipulation.specs.declared.stipulation.Goal.TheVariants.{Mate};
 ghost use Rattle.pop_battle.specs.Chess.{chess};
-ghost use Rattle.pop_stipulation.specs.declared.stipulation.Battle.TheVariants.{Selfmate};
+ghost use Rattle.pop_stipulation.specs.declared.stipulation.Battle.TheVariants.{SelfMate};
 ghost use Rattle.pop_battle.specs.ties.Calls.{EvaluatesMate};
 ghost use Rattle.pop_battle.specs.ties.Counts.{HasCounted, smallest_below};
 ghost use Rattle.pop_battle.specs.ties.Skipping.{IsNextKept};
@@ -34,7 +34,7 @@ fn forces_mate<R: Rules>(
     requires well_formed { IsWellFormed board.old }
     requires legal { is_legal R.rule board.old by ≡ true }
     ensures unchanged { board.new ≡ board.old }
-    ensures value { result ≡ value Selfmate (chess Mate R.rule) 1
+    ensures value { result ≡ value SelfMate (chess Mate R.rule) 1
         (position_after R.rule board.old by) }
 {
     if steps.follow::<R>(board, by) || threats.rule_out_mate::<R>(board, by) {
@@ -49,7 +49,7 @@ fn forces_mate<R: Rules>(
 /// Returns the next legal move after the cursor, and skips moves after which the filter finds a quiet step
 /// of Black's king. Adds the number of skipped moves to `counted`.
 #[tactic(auto, using(crate::proofs::Skipping::with_filter, crate::proofs::Skipping::without_filter))]
-fn next_unquiet<R: Rules>(
+fn next_without_quiet_step<R: Rules>(
     steps: &mut QuietSteps,
     cursor: &mut LegalCursor<R>,
     board: &mut Board,
@@ -82,15 +82,15 @@ fn some_forces_mate<R: Rules>(
     requires place { IsPlaceIn R.rule board.old cursor }
     requires none { counted.old ≡ 0 }
     ensures unchanged { board.new ≡ board.old }
-    ensures value { result ≡ joined_value Selfmate (chess Mate R.rule) 2 board.old
+    ensures value { result ≡ joined_value SelfMate (chess Mate R.rule) 2 board.old
         (moves_after R.rule board.old cursor.place) }
     ensures none { counted.new ≡ 0 → moves_after R.rule board.old cursor.place ≡ [] }
     ensures opened { counted.new ≤ length (moves_after R.rule board.old cursor.place) }
-    ensures tried { HasCounted 0 counted.new (smallest_below Selfmate (chess Mate R.rule) 2
+    ensures tried { HasCounted 0 counted.new (smallest_below SelfMate (chess Mate R.rule) 2
         board.old (moves_after R.rule board.old cursor.place)) }
 {
     let mut steps = QuietSteps::of(board);
-    while let Some(by) = next_unquiet::<R>(&mut steps, &mut cursor, board, counted) {
+    while let Some(by) = next_without_quiet_step::<R>(&mut steps, &mut cursor, board, counted) {
         *counted = counted.saturating_add(1);
         if forces_mate::<R>(steps, by, board, threats) {
             return true;
@@ -106,7 +106,7 @@ pub(crate) fn value_of_last_move<R: Rules>(
     search_state: &mut SearchState,
 ) -> bool
     requires well_formed { IsWellFormed board.old }
-    ensures { EvaluatesMate R.rule Selfmate 2 board.old board.new search_state.old.opened
+    ensures { EvaluatesMate R.rule SelfMate 2 board.old board.new search_state.old.opened
         search_state.new.opened result }
 {
     let cursor = LegalCursor::<R>::of(board);

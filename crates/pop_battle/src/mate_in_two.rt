@@ -28,8 +28,9 @@ fn leaves_no_defence<R: Rules>(by: Move, board: &mut Board, search_state: &mut S
     ensures unchanged { board.new ≡ board.old }
     ensures value { result
         ≡ value Direct (chess Mate R.rule) 2 (position_after R.rule board.old by) }
-    ensures opened { search_state.new.opened ≤ search_state.old.opened + walk_count (legal_moves R.rule)
-        (position_after R.rule) 2 (position_after R.rule board.old by) }
+    ensures opened { search_state.new.opened ≤ search_state.old.opened
+        + walk_count (legal_moves R.rule) (position_after R.rule) 2
+        (position_after R.rule board.old by) }
     ensures tried { HasCounted search_state.old.opened search_state.new.opened
         (smallest_tree Direct (chess Mate R.rule) 2 (position_after R.rule board.old by)) }
 {

@@ -65,7 +65,7 @@ fn belongs(order: Order, move_stage: MoveStage, place: MovePlace, by: &Move, boa
 }
 
 /// Returns the next move after the cursor that belongs to the stage.
-fn next_of_move_stage<R: Rules>(
+fn next_in_stage<R: Rules>(
     order: Order,
     move_stage: MoveStage,
     cursor: &mut LegalCursor<R>,
@@ -74,7 +74,8 @@ fn next_of_move_stage<R: Rules>(
     requires well_formed { IsWellFormed board.old }
     requires place { IsPlaceIn R.rule board.old cursor.old }
     ensures { Finds R.rule board.old board.new (Some cursor.new) result
-        (filter (belongs board.old order move_stage) (moves_after R.rule board.old cursor.old.place))
+        (filter (belongs board.old order move_stage)
+        (moves_after R.rule board.old cursor.old.place))
         (filter (belongs board.old order move_stage)
         (moves_after R.rule board.old cursor.new.place)) }
 {
@@ -135,14 +136,14 @@ fn next_here<R: Rules>(
         (MoveStage::Earlier, _) => cursor.next_until(order.earlier, board),
         (MoveStage::Aimed, Early::AimedMoves) => next_early::<R>(order, cursor, board),
         (MoveStage::Aimed, Early::NoMoves) | (MoveStage::Others, _) => {
-            next_of_move_stage::<R>(order, move_stage, cursor, board)
+            next_in_stage::<R>(order, move_stage, cursor, board)
         }
     }
 }
 
 /// Returns the stage after this one, or `None` after the last. Without early moves their stage is skipped.
-#[tactic(auto, using(crate::proofs::Orders::next_move_stage), unfolding(crate::specs::ties::Frames::moves_later))]
-fn move_stage_after<R: Rules>(order: Order, move_stage: MoveStage) -> Option<MoveStage>
+#[tactic(auto, using(crate::proofs::Orders::next_stage), unfolding(crate::specs::ties::Frames::moves_later))]
+fn stage_after<R: Rules>(order: Order, move_stage: MoveStage) -> Option<MoveStage>
     ensures later { (p : Position) → MatchOption result (moves_later R.rule p order move_stage ≡ [])
         (λ s. moves_later R.rule p order move_stage ≡ all_moves_of R.rule p order s
         ++ moves_later R.rule p order s) }
@@ -156,7 +157,7 @@ fn move_stage_after<R: Rules>(order: Order, move_stage: MoveStage) -> Option<Mov
     }
 }
 
-/// Returns the cursor before the first move of a stage. If both killers are one move, the second killer's
+/// Returns the place before the first move of a stage. If both killers are one move, the second killer's
 /// stage is empty.
 #[tactic(auto, using(crate::proofs::Orders::first_place), unfolding(crate::specs::ties::Frames::moves_here))]
 pub(crate) fn place_before<R: Rules>(order: Order, move_stage: MoveStage) -> MovePlace
@@ -188,7 +189,7 @@ pub(crate) fn next_tried<R: Rules>(
         if let Some(by) = next_here::<R>(order, *move_stage, cursor, board) {
             return Some(by);
         }
-        let Some(following) = move_stage_after::<R>(order, *move_stage) else {
+        let Some(following) = stage_after::<R>(order, *move_stage) else {
             return None;
         };
         *move_stage = following;

@@ -9,7 +9,7 @@ ghost use Rattle.chess_rules.specs.ties.Places.{IsPlaceIn};
 ghost use Rattle.pop_battle.specs.Chess.{chess};
 ghost use Rattle.pop_battle.specs.Game.{can_move as has_move};
 ghost use Rattle.pop_battle.specs.Walks.{walk_count};
-ghost use Rattle.pop_stipulation.specs.declared.stipulation.Battle.TheVariants.{Direct, Selfmate};
+ghost use Rattle.pop_stipulation.specs.declared.stipulation.Battle.TheVariants.{Direct, SelfMate};
 ghost use Rattle.pop_battle.specs.ties.Calls.{Evaluates, EvaluatesMate};
 ghost use Rattle.pop_battle.specs.ties.Counts.{HasCounted, smallest_tree};
 ghost use Rattle.pop_battle.specs.ties.Frames.{CameFrom, CameFromAt, Ends, IsOpenedOn, IsTesting, Turns, left_at_top, tests};
@@ -35,7 +35,7 @@ pub fn attacker_to_move(battle: Battle, left: usize) -> bool
 {
     match battle {
         Battle::Direct => left % 2 == 1,
-        Battle::Selfmate => left % 2 == 0,
+        Battle::SelfMate => left % 2 == 0,
     }
 }
 
@@ -70,7 +70,7 @@ fn value_of_last_mate<R: Rules>(board: &mut Board, search_state: &mut SearchStat
 #[tactic(auto, using(crate::proofs::Boards::some_move, crate::proofs::Boards::settling, crate::proofs::SmallestTrees::shortest, crate::proofs::Values::last_half_move))]
 fn value_of_last_reply<R: Rules>(board: &mut Board, search_state: &mut SearchState) -> bool
     requires well_formed { IsWellFormed board.old }
-    ensures { EvaluatesMate R.rule Selfmate 1 board.old board.new search_state.old.opened
+    ensures { EvaluatesMate R.rule SelfMate 1 board.old board.new search_state.old.opened
         search_state.new.opened result }
 {
     search_state.opened = search_state.opened.saturating_add(1);
@@ -109,9 +109,9 @@ fn value_at_once<R: Rules>(
     match (aim.goal, aim.battle, left) {
         (goal, _, 0) => Some(reaches_goal::<R>(goal, board)),
         (Goal::Mate, Battle::Direct, 1) => Some(value_of_last_mate::<R>(board, search_state)),
-        (Goal::Mate, Battle::Selfmate, 1) => Some(value_of_last_reply::<R>(board, search_state)),
+        (Goal::Mate, Battle::SelfMate, 1) => Some(value_of_last_reply::<R>(board, search_state)),
         (Goal::Mate, Battle::Direct, 2) => Some(value_of_last_defence::<R>(board, search_state)),
-        (Goal::Mate, Battle::Selfmate, 2) => Some(value_of_last_move::<R>(board, search_state)),
+        (Goal::Mate, Battle::SelfMate, 2) => Some(value_of_last_move::<R>(board, search_state)),
         (Goal::Mate, Battle::Direct, 3) => Some(mates_in_two::<R>(board, search_state)),
         (_, battle, _) if is_free(battle, left) => None,
         (goal, battle, _) => {
@@ -179,7 +179,8 @@ fn descend<R: Rules, const N: usize>(
         (λ _. search_state.new.opened ≤ search_state.old.opened + walk_count (legal_moves R.rule)
         (position_after R.rule)
         (top.left - 1) (position_after R.rule board.old by)) }
-    ensures tried { MatchOption result (HasCounted search_state.old.opened search_state.new.opened 1)
+    ensures tried { MatchOption result
+        (HasCounted search_state.old.opened search_state.new.opened 1)
         (λ _. HasCounted search_state.old.opened search_state.new.opened
         (smallest_tree aim.battle (chess aim.goal R.rule) (top.left - 1)
         (position_after R.rule board.old by))) }

@@ -7,7 +7,7 @@ use Rattle.chess_core.specs.Letters.{digit_0, letter_a}
 use Rattle.pop_input.specs.Letters.{digit_5, digit_9, help_letter, mate_sign, point, selfmate_letter, stalemate_sign}
 use Rattle.pop_stipulation.specs.Stipulations.{may_have}
 use Rattle.pop_stipulation.specs.declared.stipulation.Form.{Form}
-use Rattle.pop_stipulation.specs.declared.stipulation.Form.TheVariants.{Direct, Selfmate, Help, HelpHalf}
+use Rattle.pop_stipulation.specs.declared.stipulation.Form.TheVariants.{Direct, SelfMate, Help, HelpHalf}
 use Rattle.pop_stipulation.specs.declared.stipulation.Goal.{Goal}
 use Rattle.pop_stipulation.specs.declared.stipulation.Goal.TheVariants.{Mate, Stalemate}
 use Rattle.pop_stipulation.specs.declared.stipulation.Stipulation.{Stipulation}
@@ -85,11 +85,11 @@ stipulation_in_small_letters [] = None
 stipulation_in_small_letters (a ∷ []) = None
 stipulation_in_small_letters (a ∷ n ∷ []) = stipulation_with Direct (goal_of a) (one_digit n)
 stipulation_in_small_letters (a ∷ b ∷ n ∷ []) =
-    if a == selfmate_letter then stipulation_with Selfmate (goal_of b) (one_digit n)
+    if a == selfmate_letter then stipulation_with SelfMate (goal_of b) (one_digit n)
     else (if a == help_letter then stipulation_with Help (goal_of b) (one_digit n)
     else stipulation_with Direct (goal_of a) (two_digits b n))
 stipulation_in_small_letters (a ∷ b ∷ m ∷ n ∷ []) =
-    if a == selfmate_letter then stipulation_with Selfmate (goal_of b) (two_digits m n)
+    if a == selfmate_letter then stipulation_with SelfMate (goal_of b) (two_digits m n)
     else (if a == help_letter then stipulation_with Help (goal_of b) (two_digits m n) else None)
 stipulation_in_small_letters (a ∷ b ∷ n ∷ c ∷ d ∷ []) =
     if (a == help_letter) && ((c == point) && (d == digit_5))

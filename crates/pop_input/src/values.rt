@@ -138,7 +138,7 @@ fn stipulation_with(form: Form, goal: Option<Goal>, n: Option<u8>) -> Option<Sti
         return None;
     };
     let fits = match form {
-        Form::Direct | Form::Selfmate | Form::Help => n >= 1 && n <= MOST_MOVES,
+        Form::Direct | Form::SelfMate | Form::Help => n >= 1 && n <= MOST_MOVES,
         Form::HelpHalf => n < MOST_MOVES,
     };
     if fits {
@@ -167,10 +167,10 @@ fn stipulation_in_small_letters(letters: &[u8]) -> Option<Stipulation>
 {
     match letters {
         [sign, n] => stipulation_with(Form::Direct, goal_of(*sign), one_digit(*n)),
-        [b's', sign, n] => stipulation_with(Form::Selfmate, goal_of(*sign), one_digit(*n)),
+        [b's', sign, n] => stipulation_with(Form::SelfMate, goal_of(*sign), one_digit(*n)),
         [b'h', sign, n] => stipulation_with(Form::Help, goal_of(*sign), one_digit(*n)),
         [sign, m, n] => stipulation_with(Form::Direct, goal_of(*sign), two_digits(*m, *n)),
-        [b's', sign, m, n] => stipulation_with(Form::Selfmate, goal_of(*sign), two_digits(*m, *n)),
+        [b's', sign, m, n] => stipulation_with(Form::SelfMate, goal_of(*sign), two_digits(*m, *n)),
         [b'h', sign, m, n] => stipulation_with(Form::Help, goal_of(*sign), two_digits(*m, *n)),
         [b'h', sign, n, b'.', b'5'] => stipulation_with(
             Form::HelpHalf,

@@ -62,12 +62,12 @@ module _ (rule : RuleSet) (problem : Posed) (phase : Phase) (depth : ℕ) where
   first_part_is_numbered_1 front fronts are = ap (λ all. slice_get all 0) are
 
 -- a solution that begins with another move than the part's first isn't the part's
-pub no_other_first_move : (m n : Move) (front path : List Move) (paths : List (List Move)) → same_move m n ≡ false
-    → begins_so (m ∷ front) ((n ∷ path) ∷ paths) ≡ false
+pub no_other_first_move : (m n : Move) (beginning path : List Move) (paths : List (List Move)) → same_move m n ≡ false
+    → begins_so (m ∷ beginning) ((n ∷ path) ∷ paths) ≡ false
 unfolding begins_path
-no_other_first_move m n front path paths other = rw other refl
+no_other_first_move m n beginning path paths other = rw other refl
 
 -- a solution that is shorter than the part's moves isn't the part's
-pub no_shorter_path : (m : Move) (front : List Move) (paths : List (List Move)) → begins_so (m ∷ front) ([] ∷ paths) ≡ false
+pub no_shorter_path : (m : Move) (beginning : List Move) (paths : List (List Move)) → begins_so (m ∷ beginning) ([] ∷ paths) ≡ false
 unfolding begins_path
-no_shorter_path m front paths = refl
+no_shorter_path m beginning paths = refl

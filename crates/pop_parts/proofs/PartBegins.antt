@@ -1,5 +1,5 @@
 -- How a part begins: its solutions come after its first moves.
-use Rattle.pop_parts.proofs.Words.{Frame, IsLinked, IsPartOpened, IsSound, List, Move, Phase, Posed, Position, RuleSet, Progress, [], ap, cut-at, eqb, events_along, false, get_or, is_help, is_legal, is_unstopped, left_of, legal_moves, length, length-append, length-reverse, map, min, nat_tests, nil_from_length, part_events, part_solutions, part_walk, path, path-length, path-more, path_end, path_end-append, path_end-path, path_event, phase_half_moves, phase_start, position_after, refl, reverse, rules, some-taken, suc, take, total, true, walk_count, arith, ℕ, ◌++◌, ◌+◌, ◌-◌, ◌<◌, ◌^◌, ◌∙◌, ◌∷◌, ◌≡◌, ◌≤◌}
+use Rattle.pop_parts.proofs.Words.{Frame, IsLinked, IsPartOpened, IsSound, List, Move, Phase, Posed, Position, RuleSet, Progress, [], ap, cut-at, eqb, events_along, false, get_or, is_help, is_legal, legal_moves, length, length-append, length-reverse, nat_tests, nil_from_length, part_events, part_solutions, part_walk, path, path-length, path-more, path_end, path_end-append, path_end-path, phase_half_moves, phase_start, position_after, refl, reverse, rules, some-taken, suc, take, true, walk_count, arith, ℕ, ◌++◌, ◌+◌, ◌-◌, ◌<◌, ◌∙◌, ◌∷◌, ◌≡◌, ◌≤◌}
 use Rattle.pop_parts.proofs.Parts.{part_cut}
 use Rattle.pop_parts.specs.ties.Beginnings.{IsSeeking}
 use Rattle.pop_parts.specs.ties.PartsSeen.{are_legal}
@@ -10,14 +10,14 @@ use Rattle.pop_walk.proofs.Walking.{popped}
 use Rattle.pop_walk.specs.ties.Beginnings.{IsBeginning, paths_by}
 
 -- the moves to the lowest frame, and to the one at k
-pub front-none : (frames : List Frame) → [] ≡ path (reverse (take 1 frames))
+pub beginning-none : (frames : List Frame) → [] ≡ path (reverse (take 1 frames))
 unfolding path
-front-none frames = search rules
+beginning-none frames = search rules
 
 -- one more frame is one more move
-pub front-more : (frames : List Frame) (k : ℕ) (f : Frame) → f ≡ get_or frames k f → 0 < k → k < length frames
+pub beginning-more : (frames : List Frame) (k : ℕ) (f : Frame) → f ≡ get_or frames k f → 0 < k → k < length frames
     → path (reverse (take (k + 1) frames)) ≡ path (reverse (take k frames)) ++ f.by ∷ []
-front-more frames k f at some less =
+beginning-more frames k f at some less =
     let upper = popped _ _ f (cut-at frames (k + 1) k f refl at less) in
     search (rules, upper, path-more f (reverse (take k frames)), some-taken frames k, length-reverse)
 
@@ -80,8 +80,8 @@ module _ (rule : RuleSet) (problem : Posed) (sound : IsSound problem) (phase : P
   pub is-beginning : IsBeginning rule problem phase n old board
   is-beginning = record { walking = s.walking; idle = s.idle; long = size; some = some; within = room }
 
-  abbrev front : List Move
-  front = path old ++ m ∷ []
+  abbrev beginning : List Move
+  beginning = path old ++ m ∷ []
 
   -- what the walk shows by the last of its moves
   abbrev come : List (List Move)
@@ -90,7 +90,7 @@ module _ (rule : RuleSet) (problem : Posed) (sound : IsSound problem) (phase : P
   board-at : board ≡ path_end (position_after rule) p (path old)
   board-at = s.walking.board_at ∙ path_end-path problem.stipulation.goal rule p old
 
-  come-cut : IsCutInto (is_help problem.stipulation.form) problem.max_solutions come (part_solutions rule problem phase front)
+  come-cut : IsCutInto (is_help problem.stipulation.form) problem.max_solutions come (part_solutions rule problem phase beginning)
   come-cut =
       let length-is : length (path old) ≡ n - 1 = omega (arith, path-length old, size) in
       let more : h - (n - 1) ≡ suc (h - n) = omega (arith, some, room) in
@@ -99,7 +99,7 @@ module _ (rule : RuleSet) (problem : Posed) (sound : IsSound problem) (phase : P
       (λ battle. path-one old (size ∙ alone battle)) may)
 
   -- their events are the part's
-  pub events-begun : events_along problem phase 0 come [] ≡ part_events rule problem phase front
+  pub events-begun : events_along problem phase 0 come [] ≡ part_events rule problem phase beginning
   unfolding part_events
   events-begun = search (rules, come-cut, none-before)
 

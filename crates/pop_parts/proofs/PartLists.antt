@@ -70,21 +70,21 @@ one-move F m apart =
 
 -- a line after a first move begins as a part does if that move is the part's first and the rest begins as
 -- the part goes on
-fronts-under : (m : Move) (front : List Move) (x : Move) (b : Bool) → same_move m x ≡ b → (lines : List (List Move))
-    → filter (begins_path (m ∷ front)) (map (λ line. x ∷ line) lines) ≡ cond b (map (λ line. x ∷ line) (filter (begins_path front) lines)) []
+beginnings-under : (m : Move) (beginning : List Move) (x : Move) (b : Bool) → same_move m x ≡ b → (lines : List (List Move))
+    → filter (begins_path (m ∷ beginning)) (map (λ line. x ∷ line) lines) ≡ cond b (map (λ line. x ∷ line) (filter (begins_path beginning) lines)) []
 unfolding begins_path
-fronts-under m front x b e [] = search rules
-fronts-under m front x b e (line ∷ lines) = search (rules, fronts-under m front x b e lines)
+beginnings-under m beginning x b e [] = search rules
+beginnings-under m beginning x b e (line ∷ lines) = search (rules, beginnings-under m beginning x b e lines)
 
-front-all : (lines : List (List Move)) → filter (begins_path []) lines ≡ lines
+beginning-all : (lines : List (List Move)) → filter (begins_path []) lines ≡ lines
 unfolding begins_path
-front-all [] = refl
-front-all (line ∷ lines) = ap (λ ls. line ∷ ls) (front-all lines)
+beginning-all [] = refl
+beginning-all (line ∷ lines) = ap (λ ls. line ∷ ls) (beginning-all lines)
 
 module _ (game : Game Position Move) where
   -- the lines that continue each of the lists of first moves
   pub beginnings-lines : (d h : ℕ) (p : Position) → d ≤ h
-      → flat_map (λ front. map (λ line. front ++ line) (lines_to_goal game (h - length front) (path_end game.after p front))) (beginnings game d p)
+      → flat_map (λ beginning. map (λ line. beginning ++ line) (lines_to_goal game (h - length beginning) (path_end game.after p beginning))) (beginnings game d p)
       ≡ lines_to_goal game h p
   unfolding lines_to_goal beginnings
   beginnings-lines zero h p most =
@@ -92,12 +92,12 @@ module _ (game : Game Position Move) where
   beginnings-lines (suc d) zero p most = absurd (omega (arith, most))
   beginnings-lines (suc d) (suc h) p most =
       let F : List Move → List (List Move) =
-      λ front. map (λ line. front ++ line) (lines_to_goal game (suc h - length front) (path_end game.after p front)) in
+      λ beginning. map (λ line. beginning ++ line) (lines_to_goal game (suc h - length beginning) (path_end game.after p beginning)) in
       flat-flat F (λ m. map (λ rest. m ∷ rest) (beginnings game d (game.after p m))) (game.moves p)
       ∙ flat-same _ _ (game.moves p) (λ m. flat_map-map F (λ rest. m ∷ rest) (beginnings game d (game.after p m))
       ∙ flat-same _ _ (beginnings game d (game.after p m)) (λ rest. following m rest)
-      ∙ sym (map-flat (λ line. m ∷ line) (λ front. map (λ line. front ++ line) (lines_to_goal game (h - length front)
-      (path_end game.after (game.after p m) front))) (beginnings game d (game.after p m)))
+      ∙ sym (map-flat (λ line. m ∷ line) (λ beginning. map (λ line. beginning ++ line) (lines_to_goal game (h - length beginning)
+      (path_end game.after (game.after p m) beginning))) (beginnings game d (game.after p m)))
       ∙ ap (map (λ line. m ∷ line)) (beginnings-lines d h (game.after p m) (omega (arith, most))))
     where
       following : (m : Move) (rest : List Move)
@@ -108,42 +108,42 @@ module _ (game : Game Position Move) where
           rw e (sym (map-map (λ line. m ∷ line) (λ line. rest ++ line) (lines_to_goal game (h - length rest) (path_end game.after (game.after p m) rest))))
 
   -- each list of first moves can be played and has this number of moves
-  pub beginnings-play : (d : ℕ) (p : Position) (front : List Move) → Contains (beginnings game d p) front
-      → IsPlayable game p front × (length front ≡ d)
+  pub beginnings-play : (d : ℕ) (p : Position) (beginning : List Move) → Contains (beginnings game d p) beginning
+      → IsPlayable game p beginning × (length beginning ≡ d)
   unfolding beginnings
-  beginnings-play zero p front c = grind (arith, in_cases, none_in_nil)
-  beginnings-play (suc d) p front c =
-      let w = from_flat_map (λ m. map (λ rest. m ∷ rest) (beginnings game d (game.after p m))) (game.moves p) front c in
-      grind (arith, from_map (λ rest. w.0 ∷ rest) (beginnings game d (game.after p w.0)) front w.2, beginnings-play d (game.after p w.0))
+  beginnings-play zero p beginning c = grind (arith, in_cases, none_in_nil)
+  beginnings-play (suc d) p beginning c =
+      let w = from_flat_map (λ m. map (λ rest. m ∷ rest) (beginnings game d (game.after p m))) (game.moves p) beginning c in
+      grind (arith, from_map (λ rest. w.0 ∷ rest) (beginnings game d (game.after p w.0)) beginning w.2, beginnings-play d (game.after p w.0))
 
   -- each list of this number of moves that can be played is one of them
-  pub in-beginnings : (d : ℕ) (p : Position) (front : List Move) → IsPlayable game p front → length front ≡ d → Contains (beginnings game d p) front
+  pub in-beginnings : (d : ℕ) (p : Position) (beginning : List Move) → IsPlayable game p beginning → length beginning ≡ d → Contains (beginnings game d p) beginning
   unfolding beginnings
   in-beginnings d p [] are long = grind (arith, first_in)
-  in-beginnings zero p (m ∷ front) are long = absurd (omega (arith, long))
-  in-beginnings (suc d) p (m ∷ front) are long =
-      in_flat_map (λ m. map (λ rest. m ∷ rest) (beginnings game d (game.after p m))) (game.moves p) m (m ∷ front) are.0
-      (in_map (λ rest. m ∷ rest) (beginnings game d (game.after p m)) front (in-beginnings d (game.after p m) front are.1 (omega (arith, long))))
+  in-beginnings zero p (m ∷ beginning) are long = absurd (omega (arith, long))
+  in-beginnings (suc d) p (m ∷ beginning) are long =
+      in_flat_map (λ m. map (λ rest. m ∷ rest) (beginnings game d (game.after p m))) (game.moves p) m (m ∷ beginning) are.0
+      (in_map (λ rest. m ∷ rest) (beginnings game d (game.after p m)) beginning (in-beginnings d (game.after p m) beginning are.1 (omega (arith, long))))
 
 module _ (game : Game Position Move) (order : (p : Position) → AllPairs Precedes (game.moves p)) where
   -- the lines of help play that begin with moves that can be played
-  pub front-lines : (h : ℕ) (p : Position) (front : List Move) → IsPlayable game p front → length front ≤ h
-      → filter (begins_path front) (lines_to_goal game h p)
-      ≡ map (λ line. front ++ line) (lines_to_goal game (h - length front) (path_end game.after p front))
+  pub beginning-lines : (h : ℕ) (p : Position) (beginning : List Move) → IsPlayable game p beginning → length beginning ≤ h
+      → filter (begins_path beginning) (lines_to_goal game h p)
+      ≡ map (λ line. beginning ++ line) (lines_to_goal game (h - length beginning) (path_end game.after p beginning))
   unfolding lines_to_goal
-  front-lines h p [] are most =
-      let e : h - 0 ≡ h = omega arith in rw e (front-all (lines_to_goal game h p) ∙ sym (map-id (lines_to_goal game h p)))
-  front-lines zero p (m ∷ front) are most = absurd (omega (arith, most))
-  front-lines (suc h) p (m ∷ front) are most =
+  beginning-lines h p [] are most =
+      let e : h - 0 ≡ h = omega arith in rw e (beginning-all (lines_to_goal game h p) ∙ sym (map-id (lines_to_goal game h p)))
+  beginning-lines zero p (m ∷ beginning) are most = absurd (omega (arith, most))
+  beginning-lines (suc h) p (m ∷ beginning) are most =
       let G : Move → List (List Move) = λ x. map (λ line. x ∷ line) (lines_to_goal game h (game.after p x)) in
-      let e : suc h - length (m ∷ front) ≡ h - length front = omega arith in
-      let rest = front-lines h (game.after p m) front are.1 (omega (arith, most)) in
-      rw e (filter-flat (begins_path (m ∷ front)) G (game.moves p)
-      ∙ one-move (λ x. filter (begins_path (m ∷ front)) (G x)) m (λ x f. fronts-under m front x false f (lines_to_goal game h (game.after p x))) (game.moves p)
+      let e : suc h - length (m ∷ beginning) ≡ h - length beginning = omega arith in
+      let rest = beginning-lines h (game.after p m) beginning are.1 (omega (arith, most)) in
+      rw e (filter-flat (begins_path (m ∷ beginning)) G (game.moves p)
+      ∙ one-move (λ x. filter (begins_path (m ∷ beginning)) (G x)) m (λ x f. beginnings-under m beginning x false f (lines_to_goal game h (game.after p x))) (game.moves p)
       (order p) are.0
-      ∙ fronts-under m front m true (same_as_itself m) (lines_to_goal game h (game.after p m))
+      ∙ beginnings-under m beginning m true (same_as_itself m) (lines_to_goal game h (game.after p m))
       ∙ ap (map (λ line. m ∷ line)) rest
-      ∙ map-map (λ line. m ∷ line) (λ line. front ++ line) (lines_to_goal game (h - length front) (path_end game.after (game.after p m) front)))
+      ∙ map-map (λ line. m ∷ line) (λ line. beginning ++ line) (lines_to_goal game (h - length beginning) (path_end game.after (game.after p m) beginning)))
 
   -- the beginnings stand in the order of the moves
   pub beginnings-stand : (d : ℕ) (p : Position) → AllPairs (StandsBefore Precedes) (beginnings game d p)
@@ -160,12 +160,12 @@ module _ (game : Game Position Move) (order : (p : Position) → AllPairs Preced
 
   -- a line that can be played begins with exactly one of the beginnings
   pub beginnings-one : (d : ℕ) (p : Position) (line : List Move) → IsPlayable game p line → d ≤ length line
-      → filter (λ front. begins_path front line) (beginnings game d p) ≡ take d line ∷ []
+      → filter (λ beginning. begins_path beginning line) (beginnings game d p) ≡ take d line ∷ []
   unfolding beginnings begins_path
   beginnings-one zero p line are most = refl
   beginnings-one (suc d) p [] are most = absurd (omega (arith, most))
   beginnings-one (suc d) p (x ∷ line) are most =
-      let T : List Move → Bool = λ front. begins_path front (x ∷ line) in
+      let T : List Move → Bool = λ beginning. begins_path beginning (x ∷ line) in
       let F : Move → List (List Move) = λ m. map (λ rest. m ∷ rest) (beginnings game d (game.after p m)) in
       filter-flat T F (game.moves p)
       ∙ one-move (λ m. filter T (F m)) x (λ m e. filter-map T (λ rest. m ∷ rest) (beginnings game d (game.after p m)) ∙ none m (differs_either_way x m e)

@@ -3,14 +3,14 @@ use Rattle.pop_parts.proofs.Words.{Bool, Contains, IsPlayable, IsSound, IsWellFo
 use Rattle.pop_stipulation.specs.declared.stipulation.Battle.{Battle}
 use Rattle.pop_events.specs.declared.event.Phase.TheVariants.{Play, Set}
 use Rattle.std.proofs.lemmas.Simd.{map-map}
-use Rattle.pop_parts.proofs.PartLists.{front-lines, filter-map, map-each, root-part}
+use Rattle.pop_parts.proofs.PartLists.{beginning-lines, filter-map, map-each, root-part}
 use Rattle.pop_walk.proofs.Solved.{IsCutInto, halves-form, lines-cut, set-cut, set_by, tree-cut, tree_by}
 use Rattle.pop_walk.proofs.Trees.{shown_paths-moves}
 use Rattle.pop_parts.specs.ties.PartsSeen.{are_legal}
 
 module _ (rule : RuleSet) (problem : Posed) where
   -- legal moves can be played
-  is_legal-playable : (p : Position) → IsWellFormed p → (front : List Move) → are_legal rule p front ≡ true → IsPlayable (game_of rule problem) p front
+  is_legal-playable : (p : Position) → IsWellFormed p → (beginning : List Move) → are_legal rule p beginning ≡ true → IsPlayable (game_of rule problem) p beginning
   unfolding are_legal
   is_legal-playable p well [] may = tt
   is_legal-playable p well (m ∷ ms) may =
@@ -20,25 +20,25 @@ module _ (rule : RuleSet) (problem : Posed) where
 
   -- help play: the lines that continue some moves
   abbrev pub lines-following : Phase → List Move → List (List Move)
-  lines-following phase front = map (λ line. front ++ line) (lines_to_goal (game_of rule problem) (phase_half_moves problem phase - length front)
-      (path_end (position_after rule) (phase_start problem phase) front))
+  lines-following phase beginning = map (λ line. beginning ++ line) (lines_to_goal (game_of rule problem) (phase_half_moves problem phase - length beginning)
+      (path_end (position_after rule) (phase_start problem phase) beginning))
 
-  each-alone : (h : ℕ) (p : Position) (front : List Move) → 1 ≤ h
-      → filter (begins_so front) (map (λ path. path ∷ []) (help_lines (game_of rule problem) h p))
-      ≡ map (λ path. path ∷ []) (filter (begins_path front) (lines_to_goal (game_of rule problem) h p))
+  each-alone : (h : ℕ) (p : Position) (beginning : List Move) → 1 ≤ h
+      → filter (begins_so beginning) (map (λ path. path ∷ []) (help_lines (game_of rule problem) h p))
+      ≡ map (λ path. path ∷ []) (filter (begins_path beginning) (lines_to_goal (game_of rule problem) h p))
   unfolding help_lines
-  each-alone zero p front some = absurd (omega (arith, some))
-  each-alone (suc h) p front some = filter-map (begins_so front) (λ path. path ∷ []) (lines_to_goal (game_of rule problem) (suc h) p)
+  each-alone zero p beginning some = absurd (omega (arith, some))
+  each-alone (suc h) p beginning some = filter-map (begins_so beginning) (λ path. path ∷ []) (lines_to_goal (game_of rule problem) (suc h) p)
 
   -- the solutions of a part of help play are these lines
-  pub help-part : battle_of problem.stipulation.form ≡ None → (phase : Phase) (front : List Move)
-      → IsPlayable (game_of rule problem) (phase_start problem phase) front → length front ≤ phase_half_moves problem phase
-      → 1 ≤ phase_half_moves problem phase → part_solutions rule problem phase front ≡ map (λ path. path ∷ []) (lines-following phase front)
+  pub help-part : battle_of problem.stipulation.form ≡ None → (phase : Phase) (beginning : List Move)
+      → IsPlayable (game_of rule problem) (phase_start problem phase) beginning → length beginning ≤ phase_half_moves problem phase
+      → 1 ≤ phase_half_moves problem phase → part_solutions rule problem phase beginning ≡ map (λ path. path ∷ []) (lines-following phase beginning)
   unfolding part_solutions solutions
-  help-part help phase front are most some =
-      rw help (each-alone (phase_half_moves problem phase) (phase_start problem phase) front some
-      ∙ ap (map (λ path. path ∷ [])) (front-lines (game_of rule problem) (moves_in_order rule) (phase_half_moves problem phase)
-      (phase_start problem phase) front are most))
+  help-part help phase beginning are most some =
+      rw help (each-alone (phase_half_moves problem phase) (phase_start problem phase) beginning some
+      ∙ ap (map (λ path. path ∷ [])) (beginning-lines (game_of rule problem) (moves_in_order rule) (phase_half_moves problem phase)
+      (phase_start problem phase) beginning are most))
 
   -- a battle, of h + 1 half-moves: the solutions that begin with some moves
   abbrev pub battle-by : Battle → Phase → ℕ → List Move → List (List (List Move))
@@ -65,34 +65,34 @@ module _ (rule : RuleSet) (problem : Posed) where
   battle-part battle fought phase h z m c = ap (filter (begins_so (m ∷ []))) (battle-solutions battle fought phase h z) ∙ of-one battle phase h m c
 
   -- what the walk shows after some moves in help play
-  walked : battle_of problem.stipulation.form ≡ None → (start : Bool) (h : ℕ) (p : Position) (front : List Move) (m : Move) → length front + 1 ≤ h
-      → map (λ line. front ++ line) (shown_paths (mode_of problem) (game_of rule problem) start (h - length front) (h - length front)
-      (path_end (position_after rule) p front) (m ∷ []))
-      ≡ map (λ line. (front ++ m ∷ []) ++ line) (lines_to_goal (game_of rule problem) (h - length (front ++ m ∷ []))
-      (path_end (position_after rule) p (front ++ m ∷ [])))
-  walked help start h p front m room =
-      let k : ℕ = h - length (front ++ m ∷ []) in
-      let e : h - length front ≡ suc k = omega (arith, length-append front (m ∷ []), room) in
-      let L : List (List Move) = lines_to_goal (game_of rule problem) k (position_after rule (path_end (position_after rule) p front) m) in
-      rw (e, path_end-append problem.stipulation.goal rule p front m)
-      (ap (map (λ line. front ++ line)) (shown_paths-moves (game_of rule problem) (mode_of problem) help start k (path_end (position_after rule) p front)
+  walked : battle_of problem.stipulation.form ≡ None → (start : Bool) (h : ℕ) (p : Position) (beginning : List Move) (m : Move) → length beginning + 1 ≤ h
+      → map (λ line. beginning ++ line) (shown_paths (mode_of problem) (game_of rule problem) start (h - length beginning) (h - length beginning)
+      (path_end (position_after rule) p beginning) (m ∷ []))
+      ≡ map (λ line. (beginning ++ m ∷ []) ++ line) (lines_to_goal (game_of rule problem) (h - length (beginning ++ m ∷ []))
+      (path_end (position_after rule) p (beginning ++ m ∷ [])))
+  walked help start h p beginning m room =
+      let k : ℕ = h - length (beginning ++ m ∷ []) in
+      let e : h - length beginning ≡ suc k = omega (arith, length-append beginning (m ∷ []), room) in
+      let L : List (List Move) = lines_to_goal (game_of rule problem) k (position_after rule (path_end (position_after rule) p beginning) m) in
+      rw (e, path_end-append problem.stipulation.goal rule p beginning m)
+      (ap (map (λ line. beginning ++ line)) (shown_paths-moves (game_of rule problem) (mode_of problem) help start k (path_end (position_after rule) p beginning)
       (m ∷ [])
       ∙ append-nil (map (λ line. m ∷ line) L))
-      ∙ map-map (λ line. front ++ line) (λ line. m ∷ line) L
-      ∙ map-each _ _ L (λ line. sym (append_assoc front (m ∷ []) line)))
+      ∙ map-map (λ line. beginning ++ line) (λ line. m ∷ line) L
+      ∙ map-each _ _ L (λ line. sym (append_assoc beginning (m ∷ []) line)))
 
-  help-cut : battle_of problem.stipulation.form ≡ None → IsSound problem → (phase : Phase) (front : List Move) (m : Move)
-      → length front + 1 ≤ phase_half_moves problem phase → are_legal rule (phase_start problem phase) (front ++ m ∷ []) ≡ true → (start : Bool)
+  help-cut : battle_of problem.stipulation.form ≡ None → IsSound problem → (phase : Phase) (beginning : List Move) (m : Move)
+      → length beginning + 1 ≤ phase_half_moves problem phase → are_legal rule (phase_start problem phase) (beginning ++ m ∷ []) ≡ true → (start : Bool)
       → IsCutInto true problem.max_solutions
-      (map (λ line. front ++ line) (shown_paths (mode_of problem) (game_of rule problem) start
-      (phase_half_moves problem phase - length front) (phase_half_moves problem phase - length front)
-      (path_end (position_after rule) (phase_start problem phase) front) (m ∷ [])))
-      (part_solutions rule problem phase (front ++ m ∷ []))
-  help-cut help sound phase front m room may start =
-      let most : length (front ++ m ∷ []) ≤ phase_half_moves problem phase = omega (arith, length-append front (m ∷ []), room) in
-      let part = help-part help phase (front ++ m ∷ []) (is_legal-playable (phase_start problem phase) (start_sound problem sound phase) (front ++ m ∷ []) may)
+      (map (λ line. beginning ++ line) (shown_paths (mode_of problem) (game_of rule problem) start
+      (phase_half_moves problem phase - length beginning) (phase_half_moves problem phase - length beginning)
+      (path_end (position_after rule) (phase_start problem phase) beginning) (m ∷ [])))
+      (part_solutions rule problem phase (beginning ++ m ∷ []))
+  help-cut help sound phase beginning m room may start =
+      let most : length (beginning ++ m ∷ []) ≤ phase_half_moves problem phase = omega (arith, length-append beginning (m ∷ []), room) in
+      let part = help-part help phase (beginning ++ m ∷ []) (is_legal-playable (phase_start problem phase) (start_sound problem sound phase) (beginning ++ m ∷ []) may)
       most (omega (arith, room)) in
-      rw (walked help start (phase_half_moves problem phase) (phase_start problem phase) front m room, part)
+      rw (walked help start (phase_half_moves problem phase) (phase_start problem phase) beginning m room, part)
       (lines-cut _ _)
 
   one-cut : (battle : Battle) → battle_of problem.stipulation.form ≡ Some battle → (phase : Phase) (h : ℕ) → phase_half_moves problem phase ≡ suc h
@@ -128,21 +128,21 @@ module _ (rule : RuleSet) (problem : Posed) where
 
 -- after a part's first moves, the last of which is still to be made, the walk shows the part's solutions
 abbrev pub IsPartCut : RuleSet → Posed → Phase → Bool → List Move → Move → Type 0
-IsPartCut rule problem phase help front m = IsCutInto help problem.max_solutions
-    (map (λ line. front ++ line) (shown_paths (mode_of problem) (chess problem.stipulation.goal rule) (eqb (length front) 0)
-    (phase_half_moves problem phase - length front) (phase_half_moves problem phase - length front)
-    (path_end (position_after rule) (phase_start problem phase) front) (m ∷ []))) (part_solutions rule problem phase (front ++ m ∷ []))
+IsPartCut rule problem phase help beginning m = IsCutInto help problem.max_solutions
+    (map (λ line. beginning ++ line) (shown_paths (mode_of problem) (chess problem.stipulation.goal rule) (eqb (length beginning) 0)
+    (phase_half_moves problem phase - length beginning) (phase_half_moves problem phase - length beginning)
+    (path_end (position_after rule) (phase_start problem phase) beginning) (m ∷ []))) (part_solutions rule problem phase (beginning ++ m ∷ []))
 
 -- so it does in help play and in battles
-pub part_cut : (rule : RuleSet) (problem : Posed) (sound : IsSound problem) (phase : Phase) (front : List Move) (m : Move)
-    → length front + 1 ≤ phase_half_moves problem phase → (is_help problem.stipulation.form ≡ false → front ≡ [])
-    → are_legal rule (phase_start problem phase) (front ++ m ∷ []) ≡ true → IsPartCut rule problem phase (is_help problem.stipulation.form) front m
-part_cut rule problem sound phase front m room alone may =
+pub part_cut : (rule : RuleSet) (problem : Posed) (sound : IsSound problem) (phase : Phase) (beginning : List Move) (m : Move)
+    → length beginning + 1 ≤ phase_half_moves problem phase → (is_help problem.stipulation.form ≡ false → beginning ≡ [])
+    → are_legal rule (phase_start problem phase) (beginning ++ m ∷ []) ≡ true → IsPartCut rule problem phase (is_help problem.stipulation.form) beginning m
+part_cut rule problem sound phase beginning m room alone may =
     by_play (battle_of problem.stipulation.form) refl
   where
-    by_play : (battle : Option Battle) → battle_of problem.stipulation.form ≡ battle → IsPartCut rule problem phase (is_none battle) front m
-    by_play None help = help-cut rule problem help sound phase front m room may (eqb (length front) 0)
+    by_play : (battle : Option Battle) → battle_of problem.stipulation.form ≡ battle → IsPartCut rule problem phase (is_none battle) beginning m
+    by_play None help = help-cut rule problem help sound phase beginning m room may (eqb (length beginning) 0)
     by_play (Some battle) fought =
-        let Cut : List Move → Type 0 = λ front. length front + 1 ≤ phase_half_moves problem phase
-        → are_legal rule (phase_start problem phase) (front ++ m ∷ []) ≡ true → IsPartCut rule problem phase false front m in
+        let Cut : List Move → Type 0 = λ beginning. length beginning + 1 ≤ phase_half_moves problem phase
+        → are_legal rule (phase_start problem phase) (beginning ++ m ∷ []) ≡ true → IsPartCut rule problem phase false beginning m in
         subst Cut (sym (alone (ap is_none fought))) (battle-cut rule problem battle fought sound phase m) room may

@@ -28,17 +28,17 @@ module _ (rule : RuleSet) (problem : Posed) (phase : Phase) where
   parts-battle depth free some battle = rw battle at (parts-some depth free some)
 
   -- the parts are the lists of this number of legal moves
-  pub parts-are : (depth : ℕ) → is_impossible_phase rule problem phase ≡ false → (h : ℕ) → phase_half_moves problem phase ≡ h → (front : List Move)
-      → Contains (parts rule problem phase depth) front
-      ↔ ((1 ≤ phase_half_moves problem phase) × IsPlayable (game_of rule problem) (phase_start problem phase) front
-      × (length front ≡ part_depth problem phase depth))
-  parts-are depth free zero z front =
-      (λ c. absurd (none_in_nil front (rw (parts-none depth free z) at c)), λ w. absurd (omega (arith, z, w.0)))
-  parts-are depth free (suc h) z front =
+  pub parts-are : (depth : ℕ) → is_impossible_phase rule problem phase ≡ false → (h : ℕ) → phase_half_moves problem phase ≡ h → (beginning : List Move)
+      → Contains (parts rule problem phase depth) beginning
+      ↔ ((1 ≤ phase_half_moves problem phase) × IsPlayable (game_of rule problem) (phase_start problem phase) beginning
+      × (length beginning ≡ part_depth problem phase depth))
+  parts-are depth free zero z beginning =
+      (λ c. absurd (none_in_nil beginning (rw (parts-none depth free z) at c)), λ w. absurd (omega (arith, z, w.0)))
+  parts-are depth free (suc h) z beginning =
       let e = parts-some depth free (omega (arith, z)) in
       let d : ℕ = part_depth problem phase depth in (
-        λ c. let w = beginnings-play (game_of rule problem) d (phase_start problem phase) front (rw e at c) in (omega (arith, z), w.0, w.1),
-        λ w. rw e (in-beginnings (game_of rule problem) d (phase_start problem phase) front w.1 w.2),
+        λ c. let w = beginnings-play (game_of rule problem) d (phase_start problem phase) beginning (rw e at c) in (omega (arith, z), w.0, w.1),
+        λ w. rw e (in-beginnings (game_of rule problem) d (phase_start problem phase) beginning w.1 w.2),
       )
 
   -- the parts stand in the order of the moves
@@ -67,23 +67,23 @@ module _ (rule : RuleSet) (problem : Posed) (phase : Phase) where
   help-joined : battle_of problem.stipulation.form ≡ None → 1 ≤ phase_half_moves problem phase → (d : ℕ) → d ≤ phase_half_moves problem phase
       → flat_map (part_solutions rule problem phase) (beginnings (game_of rule problem) d (phase_start problem phase)) ≡ solutions rule problem phase
   help-joined help some d most =
-      let fronts = beginnings (game_of rule problem) d (phase_start problem phase) in
-      flat-in (part_solutions rule problem phase) (λ front. map (λ path. path ∷ []) (lines-following rule problem phase front)) fronts
-      (λ front c. let w = beginnings-play (game_of rule problem) d (phase_start problem phase) front c in
-      help-part rule problem help phase front w.0 (omega (arith, w.1, most)) some)
-      ∙ sym (map-flat (λ path. path ∷ []) (lines-following rule problem phase) fronts)
+      let begun = beginnings (game_of rule problem) d (phase_start problem phase) in
+      flat-in (part_solutions rule problem phase) (λ beginning. map (λ path. path ∷ []) (lines-following rule problem phase beginning)) begun
+      (λ beginning c. let w = beginnings-play (game_of rule problem) d (phase_start problem phase) beginning c in
+      help-part rule problem help phase beginning w.0 (omega (arith, w.1, most)) some)
+      ∙ sym (map-flat (λ path. path ∷ []) (lines-following rule problem phase) begun)
       ∙ ap (map (λ path. path ∷ []))
       (beginnings-lines (game_of rule problem) d (phase_half_moves problem phase) (phase_start problem phase) most)
       ∙ sym (help-solutions help some)
 
   help-once : battle_of problem.stipulation.form ≡ None → 1 ≤ phase_half_moves problem phase → (d : ℕ) → d ≤ phase_half_moves problem phase
       → (s : List (List Move)) → Contains (solutions rule problem phase) s
-      → length (filter (λ front. begins_so front s) (beginnings (game_of rule problem) d (phase_start problem phase))) ≡ 1
+      → length (filter (λ beginning. begins_so beginning s) (beginnings (game_of rule problem) d (phase_start problem phase))) ≡ 1
   help-once help some d most s c =
       let w = from_map (λ path. path ∷ []) (lines_to_goal (game_of rule problem) (phase_half_moves problem phase) (phase_start problem phase)) s
       (rw (help-solutions help some) at c) in
       let l = from_lines (game_of rule problem) (phase_half_moves problem phase) (phase_start problem phase) w.0 w.1 in
-      subst (λ s. length (filter (λ front. begins_so front s) (beginnings (game_of rule problem) d (phase_start problem phase))) ≡ 1) w.2
+      subst (λ s. length (filter (λ beginning. begins_so beginning s) (beginnings (game_of rule problem) d (phase_start problem phase))) ≡ 1) w.2
       (ap length (beginnings-one (game_of rule problem) (moves_in_order rule) d (phase_start problem phase) w.0 l.1 (omega (arith, l.0, most))))
 
   -- battle play
@@ -114,10 +114,10 @@ module _ (rule : RuleSet) (problem : Posed) where
 
   battle-once : (battle : Battle) → battle_of problem.stipulation.form ≡ Some battle → (phase : Phase) (h : ℕ) → phase_half_moves problem phase ≡ suc h
       → (s : List (List Move)) → Contains (solutions rule problem phase) s
-      → length (filter (λ front. begins_so front s) (beginnings (game_of rule problem) 1 (phase_start problem phase))) ≡ 1
+      → length (filter (λ beginning. begins_so beginning s) (beginnings (game_of rule problem) 1 (phase_start problem phase))) ≡ 1
   battle-once battle fought phase h z s c =
       let w = by-roots battle phase h (legal_moves rule (phase_start problem phase)) s (rw (battle-solutions rule problem battle fought phase h z) at c) in
-      subst (λ s. length (filter (λ front. begins_so front s) (beginnings (game_of rule problem) 1 (phase_start problem phase))) ≡ 1) w.3
+      subst (λ s. length (filter (λ beginning. begins_so beginning s) (beginnings (game_of rule problem) 1 (phase_start problem phase))) ≡ 1) w.3
       (ap length (beginnings-one (game_of rule problem) (moves_in_order rule) 1 (phase_start problem phase) (w.0 ∷ []) (w.2, tt) (omega arith)))
 
   none-solved : IsSound problem → (phase : Phase) → phase_half_moves problem phase ≡ 0 → solutions rule problem phase ≡ []
@@ -148,18 +148,18 @@ module _ (rule : RuleSet) (problem : Posed) where
 
     all-once : (h : ℕ) → phase_half_moves problem phase ≡ h → (battle : Option Battle) → battle_of problem.stipulation.form ≡ battle
         → (s : List (List Move)) → Contains (solutions rule problem phase) s
-        → length (filter (λ front. begins_so front s) (parts rule problem phase depth)) ≡ 1
+        → length (filter (λ beginning. begins_so beginning s) (parts rule problem phase depth)) ≡ 1
     all-once zero z play e s c = absurd (none_in_nil s (rw (none-solved sound phase z) at c))
     all-once (suc h) z None help s c =
-        ap (λ fronts. length (filter (λ front. begins_so front s) fronts)) (parts-help rule problem phase depth free (omega (arith, z))
+        ap (λ begun. length (filter (λ beginning. begins_so beginning s) begun)) (parts-help rule problem phase depth free (omega (arith, z))
         (ap is_none help))
         ∙ help-once rule problem phase help (omega (arith, z)) (min depth (phase_half_moves problem phase)) (omega arith) s c
     all-once (suc h) z (Some battle) fought s c =
-        ap (λ fronts. length (filter (λ front. begins_so front s) fronts)) (parts-battle rule problem phase depth free (omega (arith, z))
+        ap (λ begun. length (filter (λ beginning. begins_so beginning s) begun)) (parts-battle rule problem phase depth free (omega (arith, z))
         (ap is_none fought))
         ∙ battle-once battle fought phase h z s c
 
     -- each solution begins as one part alone
     pub once : (s : List (List Move)) → Contains (solutions rule problem phase) s
-        → length (filter (λ front. begins_so front s) (parts rule problem phase depth)) ≡ 1
+        → length (filter (λ beginning. begins_so beginning s) (parts rule problem phase depth)) ≡ 1
     once s c = all-once (phase_half_moves problem phase) refl (battle_of problem.stipulation.form) refl s c

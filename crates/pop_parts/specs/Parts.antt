@@ -61,8 +61,8 @@ has_parts rule request posed = nat_le 1 request.first && nat_le request.first re
 
 -- the text of a part: its events
 unfoldable pub part_text : RuleSet → Posed → Phase → Path → List ℕ
-part_text rule posed phase front = flat_map event_text
-    (map (event_of rule posed) (part_events rule posed phase front))
+part_text rule posed phase beginning = flat_map event_text
+    (map (event_of rule posed) (part_events rule posed phase beginning))
 
 -- the requested parts, in order
 abbrev pub parts_requested : RuleSet → PartRequest → Posed → List Path

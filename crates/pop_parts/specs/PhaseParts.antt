@@ -40,28 +40,28 @@ part_numbered rule problem phase depth number =
 -- the path begins with these moves
 unfoldable pub begins_path : Path → Path → Bool
 begins_path [] path = true
-begins_path (m ∷ front) [] = false
-begins_path (m ∷ front) (n ∷ path) = same_move m n && begins_path front path
+begins_path (m ∷ beginning) [] = false
+begins_path (m ∷ beginning) (n ∷ path) = same_move m n && begins_path beginning path
 
 -- the solution's first path begins with these moves
 abbrev pub begins_so : Path → Solution → Bool
-begins_so front [] = false
-begins_so front (path ∷ paths) = begins_path front path
+begins_so beginning [] = false
+begins_so beginning (path ∷ paths) = begins_path beginning path
 
 -- the solutions of a part: the solutions of its phase that begin with its first moves
 unfoldable pub part_solutions : RuleSet → Posed → Phase → Path → List Solution
-part_solutions rule problem phase front =
-    filter (begins_so front) (solutions rule problem phase)
+part_solutions rule problem phase beginning =
+    filter (begins_so beginning) (solutions rule problem phase)
 
 -- the number of a part's solutions, up to the limit
 abbrev pub part_count : RuleSet → Posed → Phase → Path → ℕ
-part_count rule problem phase front =
-    length (take problem.max_solutions (part_solutions rule problem phase front))
+part_count rule problem phase beginning =
+    length (take problem.max_solutions (part_solutions rule problem phase beginning))
 
 -- the events of a part: its first solutions, whole, and their number
 unfoldable pub part_events : RuleSet → Posed → Phase → Path → List BareEvent
-part_events rule problem phase front =
+part_events rule problem phase beginning =
     map (path_event problem phase) (flat_map (λ solution. solution)
-    (take problem.max_solutions (part_solutions rule problem phase front)))
-    ++ total (part_count rule problem phase front)
-    (part_count rule problem phase front == problem.max_solutions) ∷ []
+    (take problem.max_solutions (part_solutions rule problem phase beginning)))
+    ++ total (part_count rule problem phase beginning)
+    (part_count rule problem phase beginning == problem.max_solutions) ∷ []

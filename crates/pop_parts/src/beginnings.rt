@@ -115,12 +115,7 @@ pub(crate) fn begin_walk<R: Rules, const N: usize>(
     if phase_half_moves(problem, phase) == 0 || !set_up::<R>(problem, phase, board) {
         return false;
     }
-    frames.push(Frame {
-        place: MovePlace::start(),
-        left: 0,
-        cursor: None,
-        ..Frame::default()
-    });
+    frames.push(Frame::default());
     true
 }
 

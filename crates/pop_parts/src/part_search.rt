@@ -15,19 +15,22 @@ use pop_walk::phases::{Progress, advance};
 use std::marker::Model;
 
 /// Returns the moves that lead to the top frame, followed by `by`.
-fn front_of<R: Rules, const N: usize>(frames: &ArrayVec<Frame<R>, N>, by: Move) -> ArrayVec<Move, N>
+fn beginning_of<R: Rules, const N: usize>(
+    frames: &ArrayVec<Frame<R>, N>,
+    by: Move,
+) -> ArrayVec<Move, N>
     requires open { 0 < array_vec_len frames.now }
     ensures { result.items ≡ path (reverse frames.now.items) ++ by ∷ [] }
 {
-    let mut front = ArrayVec::new();
+    let mut beginning = ArrayVec::new();
     let mut k = 1;
     while k < frames.len() {
         let frame = &frames[k];
-        front.push(frame.by);
+        beginning.push(frame.by);
         k += 1;
     }
-    front.push(by);
-    front
+    beginning.push(by);
+    beginning
 }
 
 /// A search for the solutions of one part of a phase, the solutions that begin with the part's first
@@ -37,7 +40,7 @@ fn front_of<R: Rules, const N: usize>(frames: &ArrayVec<Frame<R>, N>, by: Move) 
 pub struct PartSearch<R: Rules, const N: usize> {
     problem: Problem,
     phase: Phase,
-    front: ArrayVec<Move, N>,
+    beginning: ArrayVec<Move, N>,
     progress: Progress,
     board: Board,
     frames: ArrayVec<Frame<R>, N>,
@@ -57,7 +60,7 @@ impl<R: Rules, const N: usize> Model for PartSearch<R, N> {
     ghost view = { λ s. record {
       problem = s.problem;
       phase = s.phase;
-      front = s.front.items;
+      beginning = s.beginning.items;
       left = left_of R.rule s.problem s.progress (reverse s.frames.items);
       board = s.board;
       depth = array_vec_len s.frames;
@@ -68,7 +71,7 @@ impl<R: Rules, const N: usize> Model for PartSearch<R, N> {
     ghost invariant = { λ s. IsSound s.problem
         × (half_moves s.problem.stipulation < N)
         × HoldsAtProgress R.rule s.problem s.progress (reverse s.frames.items) s.board
-        × IsPartOpened R.rule s.problem s.phase s.front.items s.progress (reverse s.frames.items)
+        × IsPartOpened R.rule s.problem s.phase s.beginning.items s.progress (reverse s.frames.items)
         s.search_state.opened };
 }
 
@@ -104,9 +107,9 @@ impl<R: Rules, const N: usize> PartSearch<R, N> {
         requires depth { 1 ≤ depth }
         ensures part { MatchOption result
             (part_numbered R.rule problem.now phase depth number ≡ None)
-            (λ s. (part_numbered R.rule problem.now phase depth number ≡ Some s.front)
+            (λ s. (part_numbered R.rule problem.now phase depth number ≡ Some s.beginning)
             × (s.problem ≡ problem.now) × (s.phase ≡ phase)
-            × (s.left ≡ part_events R.rule problem.now phase s.front)) }
+            × (s.left ≡ part_events R.rule problem.now phase s.beginning)) }
     {
         if number == 0 {
             return None;
@@ -133,12 +136,12 @@ impl<R: Rules, const N: usize> PartSearch<R, N> {
             × (array_vec_len frames ≡ d) }
         requires legal { is_legal R.rule board by ≡ true }
         requires battle { is_help problem.now.stipulation.form ≡ false → array_vec_len frames ≡ 1 }
-        ensures front { result.front ≡ path (reverse frames.items) ++ by ∷ [] }
+        ensures beginning { result.beginning ≡ path (reverse frames.items) ++ by ∷ [] }
         ensures problem { result.problem ≡ problem.now }
         ensures phase { result.phase ≡ phase }
-        ensures left { result.left ≡ part_events R.rule problem.now phase result.front }
+        ensures left { result.left ≡ part_events R.rule problem.now phase result.beginning }
     {
-        let front = front_of::<R, N>(&frames, by);
+        let beginning = beginning_of::<R, N>(&frames, by);
         let mut search_state = SearchState::with(killers);
         let progress = begin_after::<R, N>(
             problem,
@@ -151,7 +154,7 @@ impl<R: Rules, const N: usize> PartSearch<R, N> {
         PartSearch {
             problem: *problem,
             phase,
-            front,
+            beginning,
             progress,
             board,
             frames,
@@ -170,7 +173,7 @@ impl<R: Rules, const N: usize> PartSearch<R, N> {
             (λ bare. IsAtPathOf R.rule self.old.problem bare self.new.board self.new.depth) }
         ensures problem { self.new.problem ≡ self.old.problem }
         ensures phase { self.new.phase ≡ self.old.phase }
-        ensures front { self.new.front ≡ self.old.front }
+        ensures beginning { self.new.beginning ≡ self.old.beginning }
         ensures opened { self.old.opened ≤ self.new.opened }
     {
         show_fits_u64(self.search_state.opened);
@@ -200,7 +203,7 @@ impl<R: Rules, const N: usize> PartSearch<R, N> {
     pub fn opened(&self) -> u64
         ensures opened { result ≡ self.now.opened }
         ensures most { is_help self.now.problem.stipulation.form ≡ true
-            → result ≤ part_walk R.rule self.now.problem self.now.phase self.now.front }
+            → result ≤ part_walk R.rule self.now.problem self.now.phase self.now.beginning }
     {
         show_fits_u64(self.search_state.opened);
         self.search_state.opened

@@ -14,7 +14,7 @@ use std::marker::Model;
 
 /// The parts of a phase that are still to come. Contracts see the record `RemainingSeen`.
 #[derive(Drop)]
-pub struct RemainingParts<R: Rules, const N: usize> {
+pub(crate) struct RemainingParts<R: Rules, const N: usize> {
     problem: Problem,
     phase: Phase,
     depth: usize,
@@ -80,9 +80,9 @@ impl<R: Rules, const N: usize> RemainingParts<R, N> {
         requires few { N ≤ MOST_FRAMES }
         requires number { 1 ≤ number }
         ensures part { MatchOption result (slice_get self.old.left (number - 1) ≡ None)
-            (λ s. (slice_get self.old.left (number - 1) ≡ Some s.front)
+            (λ s. (slice_get self.old.left (number - 1) ≡ Some s.beginning)
             × (s.problem ≡ self.old.problem) × (s.phase ≡ self.old.phase)
-            × (s.left ≡ part_events R.rule self.old.problem self.old.phase s.front)) }
+            × (s.left ≡ part_events R.rule self.old.problem self.old.phase s.beginning)) }
         ensures left { self.new.left ≡ drop number self.old.left }
         ensures problem { self.new.problem ≡ self.old.problem }
         ensures phase { self.new.phase ≡ self.old.phase }

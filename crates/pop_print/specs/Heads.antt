@@ -7,7 +7,7 @@ use Rattle.chess_core.specs.declared.man.Colour.{Colour}
 use Rattle.chess_core.specs.declared.man.Colour.TheVariants.{White, Black}
 use Rattle.pop_input.specs.Posed.{Posed}
 use Rattle.pop_stipulation.specs.declared.stipulation.Form.{Form}
-use Rattle.pop_stipulation.specs.declared.stipulation.Form.TheVariants.{Direct, Selfmate, Help, HelpHalf}
+use Rattle.pop_stipulation.specs.declared.stipulation.Form.TheVariants.{Direct, SelfMate, Help, HelpHalf}
 use Rattle.pop_stipulation.specs.declared.stipulation.Goal.{Goal}
 use Rattle.pop_stipulation.specs.declared.stipulation.Goal.TheVariants.{Mate, Stalemate}
 use Rattle.pop_stipulation.specs.declared.stipulation.Stipulation.{Stipulation}
@@ -46,14 +46,14 @@ labelled_text label (byte ∷ text) = label ++ (byte ∷ text) ++ codes "\n"
 -- what comes before the goal's sign in the word of a stipulation
 abbrev pub form_text : Form → List ℕ
 form_text Direct = []
-form_text Selfmate = codes "s"
+form_text SelfMate = codes "s"
 form_text Help = codes "h"
 form_text HelpHalf = codes "h"
 
 -- what comes after the number of moves in the word of a stipulation
 abbrev pub half_text : Form → List ℕ
 half_text Direct = []
-half_text Selfmate = []
+half_text SelfMate = []
 half_text Help = []
 half_text HelpHalf = codes ".5"
 

@@ -6,7 +6,7 @@ ghost use Rattle.pop_print.specs.Moves.{move_text};
 ghost use Rattle.pop_print.specs.Notation.{blank};
 
 use crate::line::{LONGEST, LONGEST_NUMBER, LineBuffer};
-use crate::moves::MOVE;
+use crate::moves::LONGEST_MOVE;
 use pop_events::{Event, Phase, Shown};
 use pop_stipulation::MOST_HALF_MOVES;
 use pop_text::{Sink, SinkFault, put_all};
@@ -14,20 +14,20 @@ use pop_text::{Sink, SinkFault, put_all};
 // The most blanks before a node of a problem: two for each half-move above it.
 const BLANKS: u64 = 64;
 
-// The room in bytes for a total, or for a node of battle play with at most `BLANKS` blanks before it (own).
-const NODE: usize = 128;
+// The most bytes of a total, or of a node of battle play with at most `BLANKS` blanks before it (own).
+const LONGEST_NODE: usize = 128;
 
 // The most bytes of a half-move's number.
-const PREFIX: usize = 23;
+const LONGEST_PREFIX: usize = 23;
 
 // The most bytes before a move of a line.
-const MOVE_NUMBER: usize = PREFIX + 1;
+const LONGEST_MOVE_NUMBER: usize = LONGEST_PREFIX + 1;
 
 // The most bytes of a line's moves, each with its number.
-const MOVES: usize = MOST_HALF_MOVES * (MOVE_NUMBER + MOVE);
+const LONGEST_MOVES: usize = MOST_HALF_MOVES * (LONGEST_MOVE_NUMBER + LONGEST_MOVE);
 
 // The most bytes of what comes before a count, and of what follows it.
-const LABEL: usize = 16;
+const LONGEST_LABEL: usize = 16;
 
 /// Writes an event as one line.
 ///
@@ -87,7 +87,7 @@ pub(crate) fn print_node<W: Sink>(
     let blanks = 2 * u64::from(depth);
     let apart = blanks.saturating_sub(BLANKS);
     put_blanks(sink, apart)?;
-    let mut line = LineBuffer::<NODE>::new();
+    let mut line = LineBuffer::<LONGEST_NODE>::new();
     line.add_node(blanks - apart, half, shown, ending);
     line.put(sink)
 }
@@ -129,13 +129,13 @@ pub(crate) fn print_count<W: Sink>(
     ending: &[u8],
 ) -> Result<(), SinkFault>
     requires sink { W.failures sink.old < greatest_count }
-    requires label { length label.now ≤ LABEL }
-    requires ending { length ending.now ≤ LABEL }
+    requires label { length label.now ≤ LONGEST_LABEL }
+    requires ending { length ending.now ≤ LONGEST_LABEL }
     ensures bytes { Writes (W.taken sink.old) (W.taken sink.new) (label.now ++ decimal count
         ++ ending.now) result }
     ensures counted { W.failures sink.new ≡ count_after result (W.failures sink.old) }
 {
-    let mut line = LineBuffer::<NODE>::new();
+    let mut line = LineBuffer::<LONGEST_NODE>::new();
     line.add_count(label, count, ending);
     line.put(sink)
 }
@@ -151,10 +151,10 @@ fn stopped_text(stopped: bool) -> &'static [u8]
 impl<const N: usize> LineBuffer<N> {
     // Adds the number of a half-move, such as `1.` for White's first and `1...` for Black's first.
     fn add_prefix(&mut self, half: u64)
-        requires room { length self.old + PREFIX ≤ N }
+        requires room { length self.old + LONGEST_PREFIX ≤ N }
         requires half { half < 2 ^ 33 }
         ensures text { self.new ≡ self.old ++ prefix_text half }
-        ensures short { length self.new ≤ length self.old + PREFIX }
+        ensures short { length self.new ≤ length self.old + LONGEST_PREFIX }
     {
         if half % 2 == 1 {
             self.add_number((half + 1) / 2);
@@ -167,10 +167,10 @@ impl<const N: usize> LineBuffer<N> {
 
     // Adds what comes before a move of a line: the first move and each White move have their number.
     fn add_move_number(&mut self, first: bool, half: u64)
-        requires room { length self.old + MOVE_NUMBER ≤ N }
+        requires room { length self.old + LONGEST_MOVE_NUMBER ≤ N }
         requires half { half < 2 ^ 33 }
         ensures text { self.new ≡ self.old ++ move_number_text first half }
-        ensures short { length self.new ≤ length self.old + MOVE_NUMBER }
+        ensures short { length self.new ≤ length self.old + LONGEST_MOVE_NUMBER }
     {
         if first {
             self.add_prefix(half);
@@ -184,11 +184,11 @@ impl<const N: usize> LineBuffer<N> {
 
     // Adds the moves of a line. `half` is the number of the first move's half-move.
     fn add_moves(&mut self, half: u64, moves: &[Shown])
-        requires room { length self.old + MOVES ≤ N }
+        requires room { length self.old + LONGEST_MOVES ≤ N }
         requires moves { length moves.now ≤ MOST_HALF_MOVES }
         requires half { half < 2 ^ 32 }
         ensures text { self.new ≡ self.old ++ moves_text true half moves.now }
-        ensures short { length self.new ≤ length self.old + MOVES }
+        ensures short { length self.new ≤ length self.old + LONGEST_MOVES }
     {
         let mut number = half;
         let mut first = true;
@@ -202,7 +202,7 @@ impl<const N: usize> LineBuffer<N> {
 
     // Adds a line of help play.
     fn add_line(&mut self, half: u32, moves: &[Shown])
-        requires room { length self.old + MOVES + 1 ≤ N }
+        requires room { length self.old + LONGEST_MOVES + 1 ≤ N }
         requires moves { length moves.now ≤ MOST_HALF_MOVES }
         ensures { self.new ≡ self.old ++ line_text half moves.now }
     {
@@ -212,7 +212,8 @@ impl<const N: usize> LineBuffer<N> {
 
     // Adds a move of battle play, after `blanks` blanks and before the line's ending.
     fn add_node(&mut self, blanks: u64, half: u32, shown: &Shown, ending: &[u8])
-        requires { length self.old + blanks + PREFIX + MOVE + length ending.now ≤ N }
+        requires { length self.old + blanks + LONGEST_PREFIX + LONGEST_MOVE
+            + length ending.now ≤ N }
         ensures { self.new ≡ self.old ++ (replicate blanks blank ++ prefix_text half
             ++ move_text shown.now ++ ending.now) }
     {

@@ -8,7 +8,7 @@ use pop_input::Fault;
 use pop_text::{Sink, SinkFault};
 
 // The most bytes of a faulty item (own).
-const FAULT: usize = 140;
+const LONGEST_FAULT: usize = 140;
 
 /// Writes a faulty item: its number, the fault with its line, and an empty line. Passes the text to the sink in one
 /// piece.
@@ -31,7 +31,7 @@ impl<const N: usize> LineBuffer<N> {
     // Adds the text of a faulty item.
     #[tactic(auto, unfolding(crate::specs::Faults::fault_text))]
     fn add_fault(&mut self, number: u64, fault: &Fault)
-        requires { length self.old + FAULT ≤ N }
+        requires { length self.old + LONGEST_FAULT ≤ N }
         ensures { self.new ≡ self.old ++ fault_text number fault.now }
     {
         self.add_item_line(number);

@@ -11,28 +11,28 @@ use pop_stipulation::{Form, Goal, Stipulation};
 use pop_text::{LONGEST_TEXT, Sink, SinkFault, Text};
 
 // The most bytes of the line with an item's number.
-pub(crate) const ITEM_LINE: usize = 29;
+pub(crate) const LONGEST_ITEM_LINE: usize = 29;
 
 // The most bytes of the lines of title and author: two labels, two texts, two line ends.
-const NAMES: usize = 15 + 2 * (LONGEST_TEXT + 1);
+const LONGEST_NAMES: usize = 15 + 2 * (LONGEST_TEXT + 1);
 
 // The bytes of a rank's line.
-const RANK: usize = 11;
+const RANK_LENGTH: usize = 11;
 
 // The bytes of the board: eight ranks, and the line of the files.
-const BOARD: usize = 9 * RANK;
+const BOARD_LENGTH: usize = 9 * RANK_LENGTH;
 
 // The most bytes of a stipulation.
-const STIPULATION: usize = 24;
+const LONGEST_STIPULATION: usize = 24;
 
 // The most bytes of the stipulation's line: a condition and the line end follow.
-const STIPULATION_LINE: usize = STIPULATION + 9;
+const LONGEST_STIPULATION_LINE: usize = LONGEST_STIPULATION + 9;
 
-// The room for a head (own).
-const HEAD: usize = 600;
+// The most bytes of a head (own).
+const LONGEST_HEAD: usize = 600;
 
-// The room for the head of a problem that is only tested (own).
-const CHECKED: usize = 700;
+// The most bytes of the head of a problem that is only tested (own).
+const LONGEST_CHECKED_HEAD: usize = 700;
 
 /// Writes the head of a sound item: its number, its title and author if there are any, the board unless the problem or
 /// `no_board` leaves it out, and the stipulation with the condition. Passes the head to the sink in one piece.
@@ -82,9 +82,9 @@ impl<const N: usize> LineBuffer<N> {
     // Adds the head: the lines from the item's number to the stipulation.
     #[tactic(auto, unfolding(crate::specs::Heads::head_text))]
     fn add_head(&mut self, number: u64, problem: &Problem, no_board: bool)
-        requires { length self.old + HEAD ≤ N }
+        requires { length self.old + LONGEST_HEAD ≤ N }
         ensures text { self.new ≡ self.old ++ head_text number problem.now no_board }
-        ensures short { length self.new ≤ length self.old + HEAD }
+        ensures short { length self.new ≤ length self.old + LONGEST_HEAD }
     {
         self.add_item_line(number);
         self.add_names(problem);
@@ -94,7 +94,7 @@ impl<const N: usize> LineBuffer<N> {
 
     // Adds the head, the line `sound` and an empty line.
     fn add_checked(&mut self, number: u64, problem: &Problem, no_board: bool)
-        requires { length self.old + CHECKED ≤ N }
+        requires { length self.old + LONGEST_CHECKED_HEAD ≤ N }
         ensures { self.new ≡ self.old ++ checked_text number problem.now no_board }
     {
         self.add_head(number, problem, no_board);
@@ -105,9 +105,9 @@ impl<const N: usize> LineBuffer<N> {
     // Adds the line `problem` with the number of the item.
     #[tactic(auto, unfolding(crate::specs::Heads::item_line))]
     pub(crate) fn add_item_line(&mut self, number: u64)
-        requires { length self.old + ITEM_LINE ≤ N }
+        requires { length self.old + LONGEST_ITEM_LINE ≤ N }
         ensures text { self.new ≡ self.old ++ item_line number }
-        ensures short { length self.new ≤ length self.old + ITEM_LINE }
+        ensures short { length self.new ≤ length self.old + LONGEST_ITEM_LINE }
     {
         self.add(b"problem ");
         self.add_number(number);
@@ -117,9 +117,9 @@ impl<const N: usize> LineBuffer<N> {
     // Adds the lines of the title and the author.
     #[tactic(auto, unfolding(crate::specs::Heads::names_text))]
     fn add_names(&mut self, problem: &Problem)
-        requires { length self.old + NAMES ≤ N }
+        requires { length self.old + LONGEST_NAMES ≤ N }
         ensures text { self.new ≡ self.old ++ names_text problem.now }
-        ensures short { length self.new ≤ length self.old + NAMES }
+        ensures short { length self.new ≤ length self.old + LONGEST_NAMES }
     {
         self.add_labelled(b"title: ", problem.title());
         self.add_labelled(b"author: ", problem.author());
@@ -128,9 +128,9 @@ impl<const N: usize> LineBuffer<N> {
     // Adds a line with the stipulation and, if there is one, the condition.
     #[tactic(auto, unfolding(crate::specs::Heads::stipulation_line))]
     fn add_stipulation_line(&mut self, problem: &Problem)
-        requires { length self.old + STIPULATION_LINE ≤ N }
+        requires { length self.old + LONGEST_STIPULATION_LINE ≤ N }
         ensures text { self.new ≡ self.old ++ stipulation_line problem.now }
-        ensures short { length self.new ≤ length self.old + STIPULATION_LINE }
+        ensures short { length self.new ≤ length self.old + LONGEST_STIPULATION_LINE }
     {
         self.add_stipulation(problem.stipulation());
         self.add(condition_text(problem.condition()));
@@ -153,10 +153,10 @@ impl<const N: usize> LineBuffer<N> {
 
     // Adds the board, or nothing if it is left out.
     fn add_board_unless(&mut self, left_out: bool, diagram: &Diagram)
-        requires { length self.old + BOARD ≤ N }
+        requires { length self.old + BOARD_LENGTH ≤ N }
         ensures text { self.new ≡ self.old
             ++ (if left_out then [] else board_text diagram.now.men) }
-        ensures short { length self.new ≤ length self.old + BOARD }
+        ensures short { length self.new ≤ length self.old + BOARD_LENGTH }
     {
         if !left_out {
             self.add_board(diagram);
@@ -165,9 +165,9 @@ impl<const N: usize> LineBuffer<N> {
 
     // Adds the board, rank 8 first, and the line of the files.
     fn add_board(&mut self, diagram: &Diagram)
-        requires { length self.old + BOARD ≤ N }
+        requires { length self.old + BOARD_LENGTH ≤ N }
         ensures text { self.new ≡ self.old ++ board_text diagram.now.men }
-        ensures short { length self.new ≤ length self.old + BOARD }
+        ensures short { length self.new ≤ length self.old + BOARD_LENGTH }
     {
         self.add_rank(diagram, 7);
         self.add_rank(diagram, 6);
@@ -182,19 +182,19 @@ impl<const N: usize> LineBuffer<N> {
 
     // Adds the line of a rank of the board. `rank` is counted from 0.
     fn add_rank(&mut self, diagram: &Diagram, rank: u8)
-        requires room { length self.old + RANK ≤ N }
+        requires room { length self.old + RANK_LENGTH ≤ N }
         requires rank { rank < 8 }
         ensures text { self.new ≡ self.old ++ rank_text diagram.now.men rank }
-        ensures short { length self.new ≤ length self.old + RANK }
+        ensures short { length self.new ≤ length self.old + RANK_LENGTH }
     {
         self.add(&rank_line(diagram, rank));
     }
 
     // Adds the stipulation as it is written in a problem, such as `#2`.
     fn add_stipulation(&mut self, stipulation: Stipulation)
-        requires { length self.old + STIPULATION ≤ N }
+        requires { length self.old + LONGEST_STIPULATION ≤ N }
         ensures text { self.new ≡ self.old ++ stipulation_text stipulation }
-        ensures short { length self.new ≤ length self.old + STIPULATION }
+        ensures short { length self.new ≤ length self.old + LONGEST_STIPULATION }
     {
         self.add(form_text(stipulation.form));
         self.add(goal_text(stipulation.goal));
@@ -210,7 +210,7 @@ fn form_text(form: Form) -> &'static [u8]
 {
     match form {
         Form::Direct => b"",
-        Form::Selfmate => b"s",
+        Form::SelfMate => b"s",
         Form::Help | Form::HelpHalf => b"h",
     }
 }
@@ -232,7 +232,7 @@ fn half_text(form: Form) -> &'static [u8]
     ensures short { length result.now ≤ 2 }
 {
     match form {
-        Form::Direct | Form::Selfmate | Form::Help => b"",
+        Form::Direct | Form::SelfMate | Form::Help => b"",
         Form::HelpHalf => b".5",
     }
 }
@@ -258,7 +258,7 @@ fn is_left_out(no_board: bool, problem: &Problem) -> bool
 
 // Returns the rank's digit and its eight squares, as a line. `rank` is counted from 0.
 #[tactic(auto, unfolding(crate::specs::Heads::rank_text))]
-fn rank_line(diagram: &Diagram, rank: u8) -> [u8; RANK]
+fn rank_line(diagram: &Diagram, rank: u8) -> [u8; RANK_LENGTH]
     requires { rank < 8 }
     ensures { result ≡ rank_text diagram.now.men rank }
 {

@@ -9,10 +9,10 @@ use chess_core::{Kind, Man, Square};
 use pop_events::{Mark, Shown, Side};
 
 /// The most bytes of a move (own).
-pub(crate) const MOVE: usize = PLAIN_MOVE + 1;
+pub(crate) const LONGEST_MOVE: usize = LONGEST_PLAIN_MOVE + 1;
 
 // The most bytes of a move without its mark (own).
-const PLAIN_MOVE: usize = 19;
+const LONGEST_PLAIN_MOVE: usize = 19;
 
 // Returns the text of castling towards the h side or the a side.
 fn castling_text(side: Side) -> &'static [u8]
@@ -57,9 +57,9 @@ impl<const N: usize> LineBuffer<N> {
     /// Adds a move, such as `Ra1*a8[+bBc8]`.
     #[tactic(auto, unfolding(crate::specs::Moves::move_text))]
     pub(crate) fn add_move(&mut self, shown: &Shown)
-        requires { length self.old + MOVE ≤ N }
+        requires { length self.old + LONGEST_MOVE ≤ N }
         ensures text { self.new ≡ self.old ++ move_text shown.now }
-        ensures short { length self.new ≤ length self.old + MOVE }
+        ensures short { length self.new ≤ length self.old + LONGEST_MOVE }
     {
         match shown.castling {
             Some(side) => self.add(castling_text(side)),
@@ -70,9 +70,9 @@ impl<const N: usize> LineBuffer<N> {
 
     // Adds a move that isn't castling, without its mark.
     fn add_plain_move(&mut self, shown: &Shown)
-        requires { length self.old + PLAIN_MOVE ≤ N }
+        requires { length self.old + LONGEST_PLAIN_MOVE ≤ N }
         ensures text { self.new ≡ self.old ++ plain_move_text shown.now }
-        ensures short { length self.new ≤ length self.old + PLAIN_MOVE }
+        ensures short { length self.new ≤ length self.old + LONGEST_PLAIN_MOVE }
     {
         self.add_man(shown.man.kind);
         self.add_square(shown.from);

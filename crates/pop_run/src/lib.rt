@@ -34,5 +34,7 @@ pub use laws::no_neighbour_changes_a_text;
 pub use play_writer::{PlayWriter, print_sound};
 pub use run_settings::Settings;
 pub use session::Session;
-pub use status::{Status, Step};
+pub use status::{
+    EXIT_DEVICE_FAILED, EXIT_FAULTY, EXIT_OUT_OF_MEMORY, EXIT_REFUSED, EXIT_SOUND, Status, Step,
+};
 pub use whole_run::{run, run_with};

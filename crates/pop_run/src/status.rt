@@ -2,6 +2,21 @@
 ghost use Rattle.std.specs.Prelude.{◌≡◌};
 ghost use Rattle.pop_run.specs.ExitStatus.{exit_status_of};
 
+/// The exit status of a program: all is written, and every problem that was read is sound.
+pub const EXIT_SOUND: u8 = 0;
+
+/// The exit status of a program: all is written, and some problem is faulty.
+pub const EXIT_FAULTY: u8 = 1;
+
+/// The exit status of a program: the words of its command line have no form of it, or name what isn't there.
+pub const EXIT_REFUSED: u8 = 2;
+
+/// The exit status of a program: its input can't be opened or failed, or its output failed.
+pub const EXIT_DEVICE_FAILED: u8 = 3;
+
+/// The exit status of a program: there was no memory to read the words of its command line.
+pub const EXIT_OUT_OF_MEMORY: u8 = 4;
+
 /// How a run ends.
 #[derive(Clone, Copy, Debug, PartialEq, Eq)]
 pub enum Status {
@@ -24,9 +39,9 @@ impl Status {
         match self {
             _ if !is_flushed => None,
             Status::OutputFailed => None,
-            Status::InputFailed => Some(3),
-            Status::Faulty => Some(1),
-            Status::Sound => Some(0),
+            Status::InputFailed => Some(EXIT_DEVICE_FAILED),
+            Status::Faulty => Some(EXIT_FAULTY),
+            Status::Sound => Some(EXIT_SOUND),
         }
     }
 }

@@ -9,8 +9,8 @@ use pop_walk::phases::{Progress, advance, first_phase};
 use std::marker::Model;
 
 /// A search that returns the same events as `Search`, with the same board and frames, but in help play doesn't
-/// walk below a position from which it knows that the goal is out of reach. So its `opened()` has an upper
-/// bound alone. Contracts see the same record `Seen`.
+/// walk below a position from which it knows that the goal is out of reach. So in help play its `opened()` has
+/// an upper bound alone. Contracts see the same record `Seen`.
 #[derive(Drop)]
 pub struct PrunedSearch<R: Rules, const N: usize> {
     problem: Problem,

@@ -11,7 +11,7 @@ pub enum Form {
     /// `#n`: White starts and reaches the goal against every defence.
     Direct,
     /// `s#n`: White starts and forces Black to reach the goal against White.
-    Selfmate,
+    SelfMate,
     /// `h#n`: Black starts, both sides help, and White reaches the goal with the last move.
     Help,
     /// `h#n.5`: White starts with one half-move, and help play of n moves follows.
@@ -24,7 +24,7 @@ pub enum Battle {
     /// White reaches the goal against every defence.
     Direct,
     /// White forces Black to reach the goal.
-    Selfmate,
+    SelfMate,
 }
 
 /// What the last move must do to the goal side.
@@ -40,10 +40,10 @@ pub enum Goal {
 pub const MOST_MOVES: u8 = 16;
 
 /// The greatest number of half-moves of a play: two for each move.
-pub const MOST_HALF_MOVES: usize = 32;
+pub const MOST_HALF_MOVES: usize = 2 * MOST_MOVES as usize;
 
 /// The most frames of a search: one for each half-move, and one after the last.
-pub const MOST_FRAMES: usize = 33;
+pub const MOST_FRAMES: usize = MOST_HALF_MOVES + 1;
 
 /// A form, a goal and a number of moves: 1 to 16, for `HelpHalf` 0 to 15.
 #[derive(Clone, Copy, Debug)]
@@ -74,7 +74,7 @@ impl Form {
     {
         match self {
             Form::Direct => Some(Battle::Direct),
-            Form::Selfmate => Some(Battle::Selfmate),
+            Form::SelfMate => Some(Battle::SelfMate),
             Form::Help | Form::HelpHalf => None,
         }
     }
@@ -92,7 +92,7 @@ impl Form {
         ensures { result ≡ first_half self }
     {
         match self {
-            Form::Direct | Form::Selfmate | Form::Help => 1,
+            Form::Direct | Form::SelfMate | Form::Help => 1,
             Form::HelpHalf => 2,
         }
     }
@@ -103,7 +103,7 @@ impl Form {
     {
         match self {
             Form::Help => Colour::Black,
-            Form::Direct | Form::Selfmate | Form::HelpHalf => Colour::White,
+            Form::Direct | Form::SelfMate | Form::HelpHalf => Colour::White,
         }
     }
 
@@ -112,7 +112,7 @@ impl Form {
         ensures { result ≡ goal_side self }
     {
         match self {
-            Form::Selfmate => Colour::White,
+            Form::SelfMate => Colour::White,
             Form::Direct | Form::Help | Form::HelpHalf => Colour::Black,
         }
     }
@@ -126,7 +126,7 @@ impl Stipulation {
         let n = self.n as usize;
         match self.form {
             Form::Direct => (2 * n).saturating_sub(1),
-            Form::Selfmate | Form::Help => 2 * n,
+            Form::SelfMate | Form::Help => 2 * n,
             Form::HelpHalf => 2 * n + 1,
         }
     }

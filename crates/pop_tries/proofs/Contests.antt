@@ -1,5 +1,5 @@
 -- What the values of positions mean for a contest.
-use Rattle.pop_tries.proofs.Words.{IsWellFormed, Game, List, Move, [], ◌∷◌, cases_lt, false≢true, inl, inr, legal_moves, Battle, Bool, Direct, Goal, Position, RuleSet, Selfmate, and_parts, arith, chess, false, is_goal_reached, is_in_set_play, is_try, keeps_win, length, list_any, nat_le, nat_tests, not, refl, refutations, rules, suc, sym, true, wins_in, zero, ℕ, ◌&&◌, ◌+◌, ◌-◌, ◌<◌, ◌∙◌, ◌≡◌, ◌≢◌, ◌≤◌, half_moves}
+use Rattle.pop_tries.proofs.Words.{IsWellFormed, Game, List, Move, [], ◌∷◌, cases_lt, false≢true, inl, inr, legal_moves, Battle, Bool, Direct, Goal, Position, RuleSet, SelfMate, and_parts, arith, chess, false, is_goal_reached, is_in_set_play, is_try, keeps_win, length, list_any, nat_le, nat_tests, not, refl, refutations, rules, suc, sym, true, wins_in, zero, ℕ, ◌&&◌, ◌+◌, ◌-◌, ◌<◌, ◌∙◌, ◌≡◌, ◌≢◌, ◌≤◌, half_moves}
 unfoldable use Rattle.pop_tries.proofs.Words.{is_lost, is_self_lost, self_wins, wins}
 unfoldable use Rattle.pop_battle.specs.ties.Values.{value}
 unfoldable use Rattle.chess_rules.specs.Legal.{is_mate, is_stalemate}
@@ -43,7 +43,7 @@ module _ (rule : RuleSet) (contest : Contest) (fit : IsContest contest) where
     where
       by : (battle : Battle) (n : ℕ) → 1 ≤ n → 1 ≤ halves battle n
       by Direct n some = omega (arith, some)
-      by Selfmate n some = omega (arith, some)
+      by SelfMate n some = omega (arith, some)
 
   -- the value after a first move
   pub key_by_value : (q : Position) → value contest.battle (game_in rule contest) (half_moves contest.stipulation - 1) q
@@ -69,7 +69,7 @@ module _ (rule : RuleSet) (contest : Contest) (fit : IsContest contest) where
     where
       by : (battle : Battle) (n : ℕ) → 1 ≤ n → halves battle n < 2 → is_in_set_play battle (game_in rule contest) n r ≡ false
       by Direct n some few = let one : n - 1 ≡ 0 = omega (arith, few) in rw one refl
-      by Selfmate n some few = absurd (omega (arith, some, few))
+      by SelfMate n some few = absurd (omega (arith, some, few))
 
   -- the value where Black has passed
   pub passed_by_value : (r : Position) → 2 ≤ half_moves contest.stipulation → (game_in rule contest).goal r ≡ false
@@ -88,7 +88,7 @@ module _ (rule : RuleSet) (contest : Contest) (fit : IsContest contest) where
     where
       by : (battle : Battle) (n : ℕ) → 1 ≤ n → halves battle n < 2 → wins_in battle (game_in rule contest) (n - 1) r ≡ false
       by Direct n some few = let one : n - 1 ≡ 0 = omega (arith, few) in rw one refl
-      by Selfmate n some few = absurd (omega (arith, some, few))
+      by SelfMate n some few = absurd (omega (arith, some, few))
 
 -- at the goal there is no legal move
 no_moves_at_goal : (goal : Goal) (rule : RuleSet) (r : Position) → is_goal_reached goal rule r ≡ true → is_nil (legal_moves rule r) ≡ true
@@ -104,8 +104,8 @@ no_win_without_move : (battle : Battle) (game : Game Position Move) (k : ℕ) (r
 unfolding wins self_wins
 no_win_without_move Direct game zero r none = refl
 no_win_without_move Direct game (suc k) r none = none_any (game.moves r) none _
-no_win_without_move Selfmate game zero r none = refl
-no_win_without_move Selfmate game (suc k) r none = none_any (game.moves r) none _
+no_win_without_move SelfMate game zero r none = refl
+no_win_without_move SelfMate game (suc k) r none = none_any (game.moves r) none _
 
 -- where the goal is reached the side to move wins nothing
 pub no_win_at_goal : (battle : Battle) (goal : Goal) (rule : RuleSet) (k : ℕ) (r : Position) → is_goal_reached goal rule r ≡ true
@@ -232,8 +232,8 @@ module _ (rule : RuleSet) (n most : ℕ) (q : Position) (allowed : 1 ≤ most) w
   try_without_reply Direct Stalemate zero_of none =
       rw (won_without_reply (chess Stalemate rule) (n - 1) none, none, nil_without_reply (legal_moves rule q) none)
       (untried_by_check (in_check rule q.men q.turn) (length (refutations Direct (chess Stalemate rule) n q)) most zero_of)
-  try_without_reply Selfmate goal zero_of none =
-      untried (keeps_win Selfmate (chess goal rule) n q) (length (refutations Selfmate (chess goal rule) n q)) most zero_of
+  try_without_reply SelfMate goal zero_of none =
+      untried (keeps_win SelfMate (chess goal rule) n q) (length (refutations SelfMate (chess goal rule) n q)) most zero_of
 
   pub try_by_stalemate : (battle : Battle) (goal : Goal) → length (refutations battle (chess goal rule) n q) ≡ 0
       → is_try battle (chess goal rule) n (chess_passing rule) most q ≡ is_refuted_by_stalemate battle goal rule q
@@ -243,7 +243,7 @@ module _ (rule : RuleSet) (n most : ℕ) (q : Position) (allowed : 1 ≤ most) w
       no_stalemate : (battle : Battle) (goal : Goal) → can_move (chess goal rule) q ≡ true → is_refuted_by_stalemate battle goal rule q ≡ false
       no_stalemate Direct Mate some = rw (not_nil_with_reply (legal_moves rule q) some) (and_false (not (in_check rule q.men q.turn)))
       no_stalemate Direct Stalemate some = refl
-      no_stalemate Selfmate goal some = refl
+      no_stalemate SelfMate goal some = refl
 
       by : (b : Bool) → can_move (chess goal rule) q ≡ b
           → is_try battle (chess goal rule) n (chess_passing rule) most q ≡ is_refuted_by_stalemate battle goal rule q
@@ -262,8 +262,8 @@ pub kept_by_value : (battle : Battle) (game : Game Position Move) (length : ℕ)
     → value battle game (length - 1) q ≡ keeps_win battle game ((length + 1) / 2) q
 kept_by_value Direct game length q s some =
     let odd : length % 2 ≡ 1 = grind (arith, nat_tests) in keeps-value game Direct ((length + 1) / 2) (length - 1) q (omega (arith, odd, some))
-kept_by_value Selfmate game length q s some =
-    let even : length % 2 ≡ 0 = grind (arith, nat_tests) in keeps-value game Selfmate ((length + 1) / 2) (length - 1) q (omega (arith, even, some))
+kept_by_value SelfMate game length q s some =
+    let even : length % 2 ≡ 0 = grind (arith, nat_tests) in keeps-value game SelfMate ((length + 1) / 2) (length - 1) q (omega (arith, even, some))
 
 other_twice : (c : Colour) → other (other c) ≡ c
 other_twice White = refl
@@ -319,7 +319,7 @@ direct_without_reply goal rule n q none =
     sym (won_without_reply rule n 1 q (omega arith) (chess goal rule) (n - 1) (sym (has_reply (legal_moves rule q)) ∙ none))
 
 pub selfmate_without_reply : (goal : Goal) (rule : RuleSet) (n : ℕ) (q : Position) → not (is_nil (legal_moves rule q)) ≡ false
-    → false ≡ keeps_win Selfmate (chess goal rule) n q
+    → false ≡ keeps_win SelfMate (chess goal rule) n q
 unfolding is_self_lost
 selfmate_without_reply goal rule n q none = rw (sym (has_reply (legal_moves rule q)) ∙ none) refl
 

@@ -1,5 +1,5 @@
 -- Moves kept by their places: a loop over the moves of a position that notes them, and tests of each.
-use Rattle.pop_tries.proofs.Words.{Battle, Bool, Contains, Direct, Goal, IsWellFormed, List, Move, Position, RuleSet, Selfmate, [], chess, false, false≢true, filter, in_cases, in_filter, inl, inr, keeps_win, legal_moves, list_any, none_in_nil, not, position_after, refl, subst, true, ℕ, ◌&&◌, ◌||◌, ◌∷◌, ◌≡◌, ◌⊎◌}
+use Rattle.pop_tries.proofs.Words.{Battle, Bool, Contains, Direct, Goal, IsWellFormed, List, Move, Position, RuleSet, SelfMate, [], chess, false, false≢true, filter, in_cases, in_filter, inl, inr, keeps_win, legal_moves, list_any, none_in_nil, not, position_after, refl, subst, true, ℕ, ◌&&◌, ◌||◌, ◌∷◌, ◌≡◌, ◌⊎◌}
 unfoldable use Rattle.pop_tries.proofs.Words.{is_lost}
 use Rattle.chess_flights.proofs.Mating.{mates_after-are}
 use Rattle.chess_flights.specs.ties.Mates.{mates_after}
@@ -112,4 +112,4 @@ module _ (rule : RuleSet) (p : Position) where
           → (λ m. keeps_win battle (chess goal rule) (moves_of 1) (position_after rule p m)) ≡ is_mating rule p
       by Direct Mate w f = refl
       by Direct Stalemate w f = absurd (false≢true f)
-      by Selfmate goal w f = absurd (false≢true w)
+      by SelfMate goal w f = absurd (false≢true w)

@@ -52,7 +52,8 @@ module _ (battle : Battle) (rule : RuleSet) (problem : Posed) where
   -- the first moves that are tries with at most `most` refutations, in the order of moves
   abbrev pub try_moves : ℕ → List Move
   try_moves most = filter (λ m. is_try battle (game_of rule problem) problem.stipulation.n
-      (chess_passing rule) most (position_after rule (play_start problem) m)) (moves rule (play_start problem))
+      (chess_passing rule) most (position_after rule (play_start problem) m))
+      (moves rule (play_start problem))
 
   -- what is shown below a first move
   abbrev pub shown_below : Move → List (Below Move)

@@ -49,7 +49,8 @@ RefutationsAreDefences = (battle : Battle) (goal : Goal) (rule : RuleSet) (n : �
 -- if a try may have as many refutations as Black has replies, each first move is a key or a try, where it
 -- doesn't reach the goal and Black has a reply
 abbrev pub FirstMovesAreKeysOrTries : Type 0
-FirstMovesAreKeysOrTries = (battle : Battle) (rule : RuleSet) (problem : Posed) (most : ℕ) (m : Move)
+FirstMovesAreKeysOrTries = (battle : Battle) (rule : RuleSet) (problem : Posed) (most : ℕ)
+    (m : Move)
     → Contains (moves rule (play_start problem)) m
     → (game_of rule problem).goal (position_after rule (play_start problem) m) ≡ false
     → can_move (game_of rule problem) (position_after rule (play_start problem) m) ≡ true

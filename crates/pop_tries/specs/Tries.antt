@@ -6,7 +6,7 @@
 -- nothing, even if Black's only move refutes; in one move there is no threat, and each reply that the goal
 -- leaves refutes.
 use Rattle.pop_stipulation.specs.declared.stipulation.Battle.{Battle}
-use Rattle.pop_stipulation.specs.declared.stipulation.Battle.TheVariants.{Direct, Selfmate}
+use Rattle.pop_stipulation.specs.declared.stipulation.Battle.TheVariants.{Direct, SelfMate}
 use Rattle.pop_battle.specs.Game.{Game, can_move}
 use Rattle.pop_walk.specs.Tree.{best_moves, continuations, is_in_set_play, keeps_win, least_moves, node, wins_in}
 use Rattle.std.specs.Prelude.{ℕ, ◌-◌, nat_le, Bool, true, false, not, ◌&&◌, ◌||◌, if◌then◌else◌, List, [], ◌∷◌, ◌++◌, map, length}
@@ -38,7 +38,7 @@ pub data Below (M : Type 0) : Type 0 where
 
 abbrev pub is_direct : Battle → Bool
 is_direct Direct = true
-is_direct Selfmate = false
+is_direct SelfMate = false
 
 -- a first move leads to q, with Black to move
 module _ {P M : Type 0} (battle : Battle) (game : Game P M) (n : ℕ) where

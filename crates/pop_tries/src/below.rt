@@ -8,7 +8,7 @@ ghost use Rattle.pop_tries.specs.ties.Starts.{ShowsBelow, ShowsNext};
 
 use crate::desk::Desk;
 use chess_core::Board;
-use chess_rules::{MovePlace, Rules};
+use chess_rules::Rules;
 use pop_battle::Frame;
 use pop_events::Shown;
 use pop_input::MOST_FRAMES;
@@ -18,7 +18,11 @@ use pop_walk::walk::{step, walk_length};
 
 /// Opens the walk over what is shown below the board's position, which White, to move, wins with
 /// `half_moves` half-moves left: below a reply, or where Black has passed. No frame is in use before.
-pub fn open_walk<R: Rules, const N: usize>(mode: Mode, half_moves: usize, desk: &mut Desk<R, N>)
+pub(crate) fn open_walk<R: Rules, const N: usize>(
+    mode: Mode,
+    half_moves: usize,
+    desk: &mut Desk<R, N>,
+)
     requires well_formed { IsWellFormed desk.old.board }
     requires empty { desk.old.frames.items ≡ [] }
     requires room { half_moves < N }
@@ -35,16 +39,14 @@ pub fn open_walk<R: Rules, const N: usize>(mode: Mode, half_moves: usize, desk: 
         &mut desk.search_state,
     );
     desk.frames.push(Frame {
-        place: MovePlace::start(),
         left,
-        cursor: None,
         ..Frame::default()
     });
 }
 
 /// Walks to the next node below a reply or below the threats. Returns whether there is one; if not, no frame
 /// is left, and the board has the position where the walk started.
-pub fn walk_on<R: Rules, const N: usize>(
+pub(crate) fn walk_on<R: Rules, const N: usize>(
     mode: Mode,
     half_moves: usize,
     desk: &mut Desk<R, N>,
@@ -73,7 +75,7 @@ pub fn walk_on<R: Rules, const N: usize>(
 
 /// A node below a first move, as it is shown.
 #[derive(Clone, Copy)]
-pub struct ShownNode {
+pub(crate) struct ShownNode {
     /// The number of moves above it; a reply has depth 1.
     pub depth: u32,
     /// The number of its half-move, counted from 1.
@@ -84,7 +86,7 @@ pub struct ShownNode {
 
 /// Returns the node at the top frame, whose position the board has. Where Black has passed, the missing reply
 /// counts as a move.
-pub fn shown_node<R: Rules>(mode: Mode, frames: &[Frame<R>], board: &mut Board) -> ShownNode
+pub(crate) fn shown_node<R: Rules>(mode: Mode, frames: &[Frame<R>], board: &mut Board) -> ShownNode
     requires deep { 2 ≤ length frames.now }
     requires shallow { length frames.now ≤ MOST_FRAMES }
     requires walking { (h : ℕ) × (p : Position)

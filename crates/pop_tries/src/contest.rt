@@ -6,14 +6,14 @@ use pop_stipulation::{Battle, Stipulation};
 
 /// A battle with its stipulation, which says how many half-moves it has.
 #[derive(Clone, Copy, Debug)]
-pub struct Contest {
+pub(crate) struct Contest {
     pub battle: Battle,
     pub stipulation: Stipulation,
 }
 
 impl Contest {
     /// Returns the battle and its goal, without the number of moves.
-    pub fn aim(self) -> Aim
+    pub(crate) fn aim(self) -> Aim
         ensures battle { result.battle ≡ self.battle }
         ensures goal { result.goal ≡ self.stipulation.goal }
     {

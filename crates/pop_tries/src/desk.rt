@@ -9,7 +9,7 @@ use pop_battle::{Frame, Killers, SearchState};
 /// What a search works on: the board, on which it plays moves and takes them back, a frame for each half-move
 /// of its walks and tests, and what it remembers.
 #[derive(Drop)]
-pub struct Desk<R: Rules, const N: usize> {
+pub(crate) struct Desk<R: Rules, const N: usize> {
     pub board: Board,
     pub frames: ArrayVec<Frame<R>, N>,
     pub search_state: SearchState,
@@ -17,7 +17,7 @@ pub struct Desk<R: Rules, const N: usize> {
 
 impl<R: Rules, const N: usize> Desk<R, N> {
     /// Returns a desk with this board, before a search has begun.
-    pub fn with(board: Board) -> Self
+    pub(crate) fn with(board: Board) -> Self
         ensures board { result.board ≡ board }
         ensures frames { result.frames.items ≡ [] }
     {

@@ -6,7 +6,7 @@ ghost use Rattle.pop_tries.specs.ties.FewPlaces.{are_few, AreAt, IsPlaceOf};
 /// The places of at most two moves in the order of moves, as numbers of `MovePlace`. Nothing is known of more
 /// moves.
 #[derive(Clone, Copy)]
-pub enum FewPlaces {
+pub(crate) enum FewPlaces {
     Empty,
     One { place: u16 },
     Two { first: u16, second: u16 },
@@ -15,7 +15,7 @@ pub enum FewPlaces {
 
 impl FewPlaces {
     /// Returns the places with one more.
-    pub fn with(self, place: u16) -> FewPlaces
+    pub(crate) fn with(self, place: u16) -> FewPlaces
         ensures { (m : Move) (all rest : List Move) → IsPlaceOf place m → AreAt self all (m ∷ rest)
             → AreAt result all rest }
     {
@@ -30,7 +30,7 @@ impl FewPlaces {
     }
 
     /// Returns whether the places are known.
-    pub fn are_few(self) -> bool
+    pub(crate) fn are_few(self) -> bool
         ensures { result ≡ are_few self }
     {
         match self {

@@ -25,7 +25,7 @@ use pop_battle::chess::next_move;
 
 /// Which first moves are shown.
 #[derive(Clone, Copy, Debug)]
-pub enum Group {
+pub(crate) enum Group {
     /// The keys.
     Keys,
     /// The tries with at most `most` refutations, 0 to `MOST_REFUTATIONS`.
@@ -177,7 +177,7 @@ fn play_next_try<R: Rules, const N: usize>(
 /// Plays the next first move after the place that belongs to the group, and moves the place to it. Returns the
 /// move, what takes it back, and a set that holds its refutations; after the last one `None`, with the board
 /// unchanged.
-pub fn play_next<R: Rules, const N: usize>(
+pub(crate) fn play_next<R: Rules, const N: usize>(
     task: &Task,
     firsts: &mut Firsts,
     desk: &mut Desk<R, N>,
@@ -236,7 +236,7 @@ fn is_shown<R: Rules, const N: usize>(
 /// and moves `place` to it; after the last one `None`. The board is unchanged. It reads
 /// nothing of `first` but what is known of threats and refutations.
 #[tactic(auto, using(crate::proofs::Loops::filtering))]
-pub fn next_reply<R: Rules, const N: usize>(
+pub(crate) fn next_reply<R: Rules, const N: usize>(
     contest: Contest,
     first: &First,
     place: &mut MovePlace,
@@ -261,7 +261,7 @@ pub fn next_reply<R: Rules, const N: usize>(
 /// Returns the next refutation after `place` of the first move that led to the board's position, and moves
 /// `place` to it; after the last one `None`. The board is unchanged. `refuting` holds the refutations.
 #[tactic(auto, using(crate::proofs::Loops::filtering))]
-pub fn next_refutation<R: Rules, const N: usize>(
+pub(crate) fn next_refutation<R: Rules, const N: usize>(
     contest: Contest,
     refuting: Refuting,
     place: &mut MovePlace,

@@ -6,18 +6,18 @@ use crate::move_set::MoveSet;
 use crate::refuting::Refuting;
 
 /// The most tries that are kept.
-pub const MOST_KEPT: usize = 16;
+pub(crate) const MOST_KEPT: usize = 16;
 
 /// A try, by its place in the order of moves, and what is known of its refutations. At place 0 is no move.
 #[derive(Clone, Copy)]
-pub struct KeptTry {
+pub(crate) struct KeptTry {
     pub refuting: Refuting,
     pub place: u16,
 }
 
 /// The first moves that may be tries, and some that are.
 #[derive(Clone, Copy)]
-pub struct Candidates {
+pub(crate) struct Candidates {
     /// The first tries that were found.
     pub kept: [KeptTry; MOST_KEPT],
     /// How many tries are kept; it affects speed only.
@@ -28,7 +28,7 @@ pub struct Candidates {
 
 impl Candidates {
     /// Returns candidates of this set, of which none is kept.
-    pub fn of(set: Option<MoveSet>) -> Candidates
+    pub(crate) fn of(set: Option<MoveSet>) -> Candidates
         ensures { result ≡ candidates_of set }
     {
         let none = KeptTry {
@@ -43,7 +43,7 @@ impl Candidates {
     }
 
     /// Keeps a try and its refutations, if they are known and there is room.
-    pub fn keep(&mut self, place: u16, refuting: Option<Refuting>)
+    pub(crate) fn keep(&mut self, place: u16, refuting: Option<Refuting>)
         ensures set { self.new.set ≡ self.old.set }
         ensures kept { (i : ℕ) → i < MOST_KEPT
             → (try_at self.new.kept i ≡ try_at self.old.kept i)
@@ -61,7 +61,7 @@ impl Candidates {
     }
 
     /// Returns the refutations that are kept at `index`, if they are of the try at `place`.
-    pub fn kept_at(&self, index: usize, place: u16) -> Option<Refuting>
+    pub(crate) fn kept_at(&self, index: usize, place: u16) -> Option<Refuting>
         ensures { IfSome result (λ set. (i : ℕ) × (i < MOST_KEPT)
             × (set ≡ (try_at self.now.kept i).refuting)
             × ((try_at self.now.kept i).place ≡ place)) }

@@ -3,19 +3,20 @@ ghost use Rattle.std.specs.Prelude.{◌≡◌, false, true};
 ghost use Rattle.chess_core.specs.declared.man.Move.{Move};
 ghost use Rattle.pop_tries.specs.ties.MoveSets.{may_be, may_hold, no_moves};
 
+use chess_attacks::words::contains;
 use chess_core::{Move, Squares};
 
 /// A set that may hold more than the moves put into it: all moves from one of their origins to one of their
 /// arrivals.
 #[derive(Clone, Copy)]
-pub struct MoveSet {
+pub(crate) struct MoveSet {
     origins: Squares,
     arrivals: Squares,
 }
 
 impl MoveSet {
     /// Returns the set without any move.
-    pub fn none() -> MoveSet
+    pub(crate) fn none() -> MoveSet
         ensures none { (m : Move) → may_hold result m ≡ false }
         ensures empty { result ≡ no_moves }
     {
@@ -26,15 +27,15 @@ impl MoveSet {
     }
 
     /// Returns whether the set may hold the move.
-    pub fn may_hold(self, by: Move) -> bool
+    pub(crate) fn may_hold(self, by: Move) -> bool
         ensures { result ≡ may_hold self by }
     {
-        self.origins >> by.from.index() & 1 == 1 && self.arrivals >> by.to.index() & 1 == 1
+        contains(self.origins, by.from) && contains(self.arrivals, by.to)
     }
 
     /// Returns the set with the move put into it.
     #[tactic(auto, using(crate::proofs::MoveSets::putting))]
-    pub fn with(self, by: Move) -> MoveSet
+    pub(crate) fn with(self, by: Move) -> MoveSet
         ensures put { may_hold result by ≡ true }
         ensures kept { (m : Move) → may_hold self m ≡ true → may_hold result m ≡ true }
     {
@@ -46,7 +47,7 @@ impl MoveSet {
 }
 
 /// Returns whether a move may be in the set; without a set nothing is known.
-pub fn may_be(set: Option<MoveSet>, by: Move) -> bool
+pub(crate) fn may_be(set: Option<MoveSet>, by: Move) -> bool
     ensures { result ≡ may_be set by }
 {
     match set {
@@ -56,7 +57,7 @@ pub fn may_be(set: Option<MoveSet>, by: Move) -> bool
 }
 
 /// Returns the set, if there is one, with the move put into it.
-pub fn noted(set: Option<MoveSet>, by: Move) -> Option<MoveSet>
+pub(crate) fn noted(set: Option<MoveSet>, by: Move) -> Option<MoveSet>
     ensures put { may_be result by ≡ true }
     ensures kept { (m : Move) → may_be set m ≡ true → may_be result m ≡ true }
 {

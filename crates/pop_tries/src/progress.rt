@@ -21,7 +21,7 @@ pub const MOST_REFUTATIONS: u32 = 200;
 
 /// What a search for tries covers in a problem of battle.
 #[derive(Clone, Copy)]
-pub struct Task {
+pub(crate) struct Task {
     pub problem: Problem,
     /// The problem's battle.
     pub battle: Battle,
@@ -31,7 +31,7 @@ pub struct Task {
 
 impl Task {
     /// Returns the battle with its stipulation.
-    pub fn contest(&self) -> Contest
+    pub(crate) fn contest(&self) -> Contest
         ensures { result ≡ contest_of self.now }
     {
         Contest {
@@ -41,7 +41,7 @@ impl Task {
     }
 
     /// Returns the number of half-moves left after a first move and a reply.
-    pub fn half_moves_below(&self) -> usize
+    pub(crate) fn half_moves_below(&self) -> usize
         ensures { result ≡ half_moves self.now.problem.stipulation - 2 }
     {
         self.problem.stipulation().half_moves().saturating_sub(2)
@@ -50,7 +50,7 @@ impl Task {
 
 /// A place among the first moves of a group.
 #[derive(Clone, Copy)]
-pub struct Firsts {
+pub(crate) struct Firsts {
     pub group: Group,
     /// The place in the order of moves.
     pub place: MovePlace,
@@ -75,13 +75,13 @@ impl Firsts {
 
 /// A first move that has been shown.
 #[derive(Clone, Copy)]
-pub struct First {
+pub(crate) struct First {
     /// The place after the move.
     pub firsts: Firsts,
     pub by: Move,
     pub undo: Undo,
-    /// The length of White's threats: the least number of half-moves within which they win. `None` if White
-    /// threatens nothing, or before the step at `Faced` has looked for threats.
+    /// What is known of White's threats. `None` if White threatens nothing, or before the step at `Faced` has
+    /// looked for threats.
     pub threat: Option<Threat>,
     /// What is known of the replies that refute.
     pub refuting: Refuting,
@@ -89,7 +89,7 @@ pub struct First {
 
 /// A reply that has been played.
 #[derive(Clone, Copy)]
-pub struct Played {
+pub(crate) struct Played {
     /// The place after the reply in the order of moves.
     pub place: MovePlace,
     pub by: Move,
@@ -98,7 +98,7 @@ pub struct Played {
 
 /// What a search for tries returns of a problem.
 #[derive(Drop)]
-pub enum Course {
+pub(crate) enum Course {
     /// The only event of help play.
     NoTries,
     /// The events of a battle that are still to come.
@@ -112,7 +112,7 @@ pub enum Course {
 
 /// What a search for tries returns next of a battle.
 #[derive(Clone, Copy)]
-pub enum TriesProgress {
+pub(crate) enum TriesProgress {
     /// The beginning of set play.
     SetPlay,
     /// That set play isn't possible.
@@ -169,7 +169,7 @@ pub enum TriesProgress {
 
 /// What a step of a search for tries leaves.
 #[derive(Drop)]
-pub struct Step {
+pub(crate) struct Step {
     /// What the search does next.
     pub progress: TriesProgress,
     /// The event that the step emits, if there is one.

@@ -6,7 +6,7 @@ use crate::move_set::MoveSet;
 
 /// The replies that may refute a first move, and one that does.
 #[derive(Clone, Copy)]
-pub struct Refuting {
+pub(crate) struct Refuting {
     /// Holds the replies that refute.
     pub moves: MoveSet,
     /// The place of a reply that refutes in the order of moves; 0 if none is known.
@@ -15,7 +15,7 @@ pub struct Refuting {
 
 impl Refuting {
     /// Returns what is known of a first move that no reply is known to refute.
-    pub fn none() -> Refuting
+    pub(crate) fn none() -> Refuting
         ensures { result ≡ nothing_refuting }
     {
         Refuting {

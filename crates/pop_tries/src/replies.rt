@@ -22,9 +22,15 @@ use pop_battle::chess::{next_move, reaches_goal};
 use pop_battle::value_of;
 use pop_stipulation::{Battle, Goal};
 
+/// The fewest half-moves of a contest with two moves after a reply: from there on forcing replies are counted first.
+const FEWEST_FORCING_FIRST: usize = 5;
+
+/// The half-moves of a contest with one move after a reply.
+const ONE_MOVE_AFTER_A_REPLY: usize = 3;
+
 /// Returns whether the first move that led to the board's position is a key.
 #[tactic(auto, using(crate::proofs::Contests::key_by_value))]
-pub fn is_key<R: Rules, const N: usize>(contest: Contest, desk: &mut Desk<R, N>) -> bool
+pub(crate) fn is_key<R: Rules, const N: usize>(contest: Contest, desk: &mut Desk<R, N>) -> bool
     requires ready { IsReady contest desk.old N }
     ensures key { result ≡ keeps_win contest.battle (game_in R.rule contest)
         contest.stipulation.n desk.old.board }
@@ -63,7 +69,11 @@ fn is_refuted<R: Rules, const N: usize>(contest: Contest, desk: &mut Desk<R, N>)
 
 /// Returns whether the legal reply `by` refutes the first move that led to the board's position.
 #[tactic(auto, using(chess_rules::proofs::LegalMoves::may_be_made))]
-pub fn refutes<R: Rules, const N: usize>(contest: Contest, by: Move, desk: &mut Desk<R, N>) -> bool
+pub(crate) fn refutes<R: Rules, const N: usize>(
+    contest: Contest,
+    by: Move,
+    desk: &mut Desk<R, N>,
+) -> bool
     requires ready { IsReady contest desk.old N }
     requires legal { is_legal R.rule desk.old.board by ≡ true }
     ensures refutes { result ≡ refutes R.rule contest desk.old.board by }
@@ -78,7 +88,7 @@ pub fn refutes<R: Rules, const N: usize>(contest: Contest, by: Move, desk: &mut 
 /// Returns whether the legal reply `by` at `place` refutes the first move that led to the board's position;
 /// `refuting` is what is known of the replies that do.
 #[tactic(auto, using(crate::proofs::Counts::refuted_by, crate::proofs::MoveSets::not_held))]
-pub fn is_refutation<R: Rules, const N: usize>(
+pub(crate) fn is_refutation<R: Rules, const N: usize>(
     contest: Contest,
     refuting: Refuting,
     by: Move,
@@ -103,7 +113,7 @@ pub fn is_refutation<R: Rules, const N: usize>(
 
 /// Returns whether the first move that led to the board's position is a key, if no reply refutes it.
 #[tactic(auto, using(crate::proofs::Contests::unrefuted))]
-pub fn is_key_unrefuted<R: Rules>(contest: Contest, board: &mut Board) -> bool
+pub(crate) fn is_key_unrefuted<R: Rules>(contest: Contest, board: &mut Board) -> bool
     requires well_formed { IsWellFormed board.old }
     ensures key { length (refutations contest.battle (game_in R.rule contest) contest.stipulation.n
         board.old) ≡ 0 → result ≡ keeps_win contest.battle (game_in R.rule contest)
@@ -115,13 +125,13 @@ pub fn is_key_unrefuted<R: Rules>(contest: Contest, board: &mut Board) -> bool
     }
     match contest.battle {
         Battle::Direct => reaches_goal::<R>(contest.stipulation.goal, board),
-        Battle::Selfmate => false,
+        Battle::SelfMate => false,
     }
 }
 
 /// Which replies are counted together.
 #[derive(Clone, Copy, Debug)]
-pub enum Counted {
+pub(crate) enum Counted {
     All,
     /// The replies that give check or capture a queen or a rook.
     Forcing,
@@ -131,7 +141,7 @@ pub enum Counted {
 
 /// A number of refutations, counted up to one more than `most`, which is 0 to `MOST_REFUTATIONS`.
 #[derive(Clone, Copy)]
-pub struct Tally {
+pub(crate) struct Tally {
     pub count: u32,
     pub most: u32,
     /// Holds the refutations that were counted.
@@ -142,7 +152,7 @@ pub struct Tally {
 
 impl Tally {
     /// Returns what is known of the refutations.
-    pub fn refuting_kept(self) -> Refuting
+    pub(crate) fn refuting_kept(self) -> Refuting
         ensures { result ≡ record { moves = self.refuting; last = self.last } }
     {
         Refuting {
@@ -281,7 +291,7 @@ fn count_among<R: Rules, const N: usize>(
 /// Returns the refutations of the first move that led to the board's position, counted up to one more than
 /// `most`. With two or more moves to come it begins with forcing replies: they leave White few moves.
 #[tactic(auto, using(crate::proofs::Counts::counting_parts))]
-pub fn count_refutations<R: Rules, const N: usize>(
+pub(crate) fn count_refutations<R: Rules, const N: usize>(
     contest: Contest,
     most: u32,
     desk: &mut Desk<R, N>,
@@ -301,7 +311,7 @@ pub fn count_refutations<R: Rules, const N: usize>(
         refuting: MoveSet::none(),
         last: 0,
     };
-    if contest.stipulation.half_moves() < 5 {
+    if contest.stipulation.half_moves() < FEWEST_FORCING_FIRST {
         return count_among::<R, N>(contest, Counted::All, none, desk);
     }
     let some = count_among::<R, N>(contest, Counted::Forcing, none, desk);
@@ -333,7 +343,7 @@ fn refutes_at<R: Rules, const N: usize>(
 /// board's position. `false` says nothing. It tests them only if one refutation is allowed and one move is left
 /// after the reply: with more moves left, forcing replies cost less.
 #[tactic(auto, using(crate::proofs::Counts::two_refute))]
-pub fn are_two_refutations<R: Rules, const N: usize>(
+pub(crate) fn are_two_refutations<R: Rules, const N: usize>(
     contest: Contest,
     most: u32,
     desk: &mut Desk<R, N>,
@@ -344,7 +354,7 @@ pub fn are_two_refutations<R: Rules, const N: usize>(
         contest.stipulation.n desk.old.board) }
     ensures rest { Keeps desk.old desk.new }
 {
-    if most != 1 || contest.stipulation.half_moves() != 3 {
+    if most != 1 || contest.stipulation.half_moves() != ONE_MOVE_AFTER_A_REPLY {
         return false;
     }
     let left = half_moves_of_replies(contest);
@@ -366,7 +376,7 @@ fn is_refuted_by_stalemate<R: Rules>(contest: Contest, board: &mut Board) -> boo
 {
     match (contest.battle, contest.stipulation.goal) {
         (Battle::Direct, Goal::Mate) => is_stalemate::<R>(board),
-        (Battle::Direct, Goal::Stalemate) | (Battle::Selfmate, _) => false,
+        (Battle::Direct, Goal::Stalemate) | (Battle::SelfMate, _) => false,
     }
 }
 
@@ -374,7 +384,7 @@ fn is_refuted_by_stalemate<R: Rules>(contest: Contest, board: &mut Board) -> boo
 /// A refuted move is no key, so the number of refutations decides, or stalemate where no reply refutes. Sets
 /// `refuting` to the refutations of a try.
 #[tactic(auto, using(crate::proofs::Contests::trying, crate::proofs::Counts::refuting_is_kept))]
-pub fn is_try<R: Rules, const N: usize>(
+pub(crate) fn is_try<R: Rules, const N: usize>(
     contest: Contest,
     most: u32,
     refuting: &mut Refuting,

@@ -12,7 +12,7 @@ use pop_stipulation::Goal;
 
 /// Returns a legal move of the board's position as it is shown.
 #[tactic(auto, using(chess_rules::proofs::LegalMoves::may_be_made), unfolding(pop_events::specs::Shown::shown_move))]
-pub fn shown<R: Rules>(goal: Goal, by: Move, board: &mut Board) -> Shown
+pub(crate) fn shown<R: Rules>(goal: Goal, by: Move, board: &mut Board) -> Shown
     requires well_formed { IsWellFormed board.old }
     requires legal { is_legal R.rule board.old by ≡ true }
     ensures shown { result ≡ shown_move goal R.rule board.old by }

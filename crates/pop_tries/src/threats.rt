@@ -30,10 +30,10 @@ use pop_walk::walk::walk_length;
 
 /// White's threats after a first move.
 #[derive(Clone, Copy)]
-pub struct Threat {
+pub(crate) struct Threat {
     /// The least number of half-moves within which they win.
     pub length: usize,
-    /// Holds them.
+    /// A set that holds the threats.
     pub moves: MoveSet,
     /// Where they are in the order of moves, if they are few.
     pub places: FewPlaces,
@@ -47,7 +47,7 @@ struct Winners {
 }
 
 /// Lets the side to move pass. Returns the en passant square, which `unpass` needs.
-pub fn pass(board: &mut Board) -> Option<Square>
+pub(crate) fn pass(board: &mut Board) -> Option<Square>
     ensures board { board.new ≡ set_start board.old }
     ensures crossed { result ≡ board.old.crossed }
 {
@@ -58,7 +58,7 @@ pub fn pass(board: &mut Board) -> Option<Square>
 
 /// Takes back that a side has passed; `crossed` is what `pass` returned.
 #[tactic(auto, using(crate::proofs::Contests::unpassed))]
-pub fn unpass(board: &mut Board, crossed: Option<Square>)
+pub(crate) fn unpass(board: &mut Board, crossed: Option<Square>)
     ensures before { (q : Position) → board.old ≡ set_start q → crossed ≡ q.crossed
         → board.new ≡ q }
 {
@@ -89,7 +89,7 @@ fn wins_with_one_less<R: Rules, const N: usize>(contest: Contest, desk: &mut Des
 
 /// Returns whether White threatens after the first move that led to the board's position.
 #[tactic(auto, using(crate::proofs::Contests::passed_well_formed))]
-pub fn has_threat<R: Rules, const N: usize>(contest: Contest, desk: &mut Desk<R, N>) -> bool
+pub(crate) fn has_threat<R: Rules, const N: usize>(contest: Contest, desk: &mut Desk<R, N>) -> bool
     requires ready { IsReady contest desk.old N }
     ensures threat { result ≡ has_threat contest.battle (game_in R.rule contest)
         contest.stipulation.n (chess_passing R.rule) desk.old.board }
@@ -107,7 +107,7 @@ pub fn has_threat<R: Rules, const N: usize>(contest: Contest, desk: &mut Desk<R,
 /// Returns the least number of half-moves within which White's threats win after the first move that led to
 /// the board's position, or `None` if White threatens nothing.
 #[tactic(auto, using(crate::proofs::Contests::passed_well_formed))]
-pub fn threat_length<R: Rules, const N: usize>(
+pub(crate) fn threat_length<R: Rules, const N: usize>(
     contest: Contest,
     desk: &mut Desk<R, N>,
 ) -> Option<usize>
@@ -237,7 +237,7 @@ fn tested_moves<R: Rules, const N: usize>(
 /// Returns what is known of White's threats after the first move that led to the board's position, or `None` if
 /// White threatens nothing.
 #[tactic(auto, using(crate::proofs::Contests::passed_well_formed))]
-pub fn find_threat<R: Rules, const N: usize>(
+pub(crate) fn find_threat<R: Rules, const N: usize>(
     contest: Contest,
     desk: &mut Desk<R, N>,
 ) -> Option<Threat>
@@ -357,7 +357,7 @@ fn stops_few<R: Rules, const N: usize>(
 
 /// Returns whether the legal reply `by` to the first move that led to the board's position is a defence.
 /// `threat` is what is known of White's threats, or `None` if White threatens nothing.
-pub fn is_defence<R: Rules, const N: usize>(
+pub(crate) fn is_defence<R: Rules, const N: usize>(
     contest: Contest,
     threat: Option<Threat>,
     by: Move,

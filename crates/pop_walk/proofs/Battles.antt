@@ -1,5 +1,5 @@
 -- The value by half-moves is what the battle definitions say.
-use Rattle.pop_walk.proofs.Words.{Battle, Game, Selfmate, arith, can_move, every_move, is_lost, is_self_lost, refl, rules, self_wins, suc, value, wins, zero, ℕ, ◌&&◌, ◌*◌, ◌||◌, ◌≡◌, Direct}
+use Rattle.pop_walk.proofs.Words.{Battle, Game, SelfMate, arith, can_move, every_move, is_lost, is_self_lost, refl, rules, self_wins, suc, value, wins, zero, ℕ, ◌&&◌, ◌*◌, ◌||◌, ◌≡◌, Direct}
 
 module _ {P M : Type 0} (game : Game P M) where
   -- with no half-move left the goal decides
@@ -19,16 +19,16 @@ module _ {P M : Type 0} (game : Game P M) where
   value-wins k p = search (rules, value-is_lost)
 
   -- a selfmate with an even number of half-moves left: White wins, or the goal is reached
-  pub value-self_wins : (k : ℕ) (r : P) → value Selfmate game (2 * k) r ≡ (game.goal r || self_wins game k r)
+  pub value-self_wins : (k : ℕ) (r : P) → value SelfMate game (2 * k) r ≡ (game.goal r || self_wins game k r)
   unfolding self_wins value
   value-self_wins zero r = grind (arith, value-zero)
   value-self_wins (suc k) r =
-      let black : (q : P) → value Selfmate game (suc (2 * k)) q ≡ (can_move game q && every_move game (λ x. game.goal x || self_wins game k x) q) =
+      let black : (q : P) → value SelfMate game (suc (2 * k)) q ≡ (can_move game q && every_move game (λ x. game.goal x || self_wins game k x) q) =
       search (rules, value-self_wins k) in
       let two : 2 * suc k ≡ suc (suc (2 * k)) = omega arith in
       rw two (search (rules, black))
 
   -- with an odd number: White, having moved to this position, still wins
-  pub value-is_self_lost : (k : ℕ) (q : P) → value Selfmate game (suc (2 * k)) q ≡ is_self_lost game k q
+  pub value-is_self_lost : (k : ℕ) (q : P) → value SelfMate game (suc (2 * k)) q ≡ is_self_lost game k q
   unfolding is_self_lost value
   value-is_self_lost k q = search (rules, value-self_wins)

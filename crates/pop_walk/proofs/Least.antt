@@ -1,5 +1,5 @@
 -- The least length by half-moves is the least number of moves.
-use Rattle.pop_walk.proofs.Words.{Bool, Game, Selfmate, arith, cond, false, least_length_from, least_moves, position_or_len, range_with_len, refl, rules, self_wins, suc, wins, zero, ℕ, ◌*◌, ◌+◌, ◌≡◌, Direct}
+use Rattle.pop_walk.proofs.Words.{Bool, Game, SelfMate, arith, cond, false, least_length_from, least_moves, position_or_len, range_with_len, refl, rules, self_wins, suc, wins, zero, ℕ, ◌*◌, ◌+◌, ◌≡◌, Direct}
 use Rattle.pop_walk.proofs.Battles.{value-wins, value-self_wins}
 
 -- the first number from a on that meets the test, or the n-th after a
@@ -34,12 +34,12 @@ module _ {P M : Type 0} (game : Game P M) (q : P) where
   -- in a selfmate where the goal isn't reached, the half-moves of the first successful test match the least
   -- number of moves
   module _ (open_yet : game.goal q ≡ false) where
-    by_twos_self : (n k : ℕ) → least_length_from Selfmate game q n (2 * k) ≡ 2 * (first_number (λ i. self_wins game i q) n k)
+    by_twos_self : (n k : ℕ) → least_length_from SelfMate game q n (2 * k) ≡ 2 * (first_number (λ i. self_wins game i q) n k)
     unfolding least_length_from first_number
     by_twos_self zero k = search rules
     by_twos_self (suc n) k = grind (arith, by_twos_self n (k + 1), value-self_wins)
 
     -- in a selfmate the shortest length in half-moves is twice the least number of moves
-    pub least_moves-selfmate : (n : ℕ) → least_length_from Selfmate game q n 2 ≡ 2 * least_moves Selfmate game (suc n) q
+    pub least_moves-selfmate : (n : ℕ) → least_length_from SelfMate game q n 2 ≡ 2 * least_moves SelfMate game (suc n) q
     unfolding first_number self_wins
     least_moves-selfmate n = search (rules, by_twos_self n 1, first_number-is)

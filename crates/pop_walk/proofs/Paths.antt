@@ -2,7 +2,7 @@
 use Rattle.pop_walk.proofs.Words.{CameFrom, CameFromAt, Frame, Goal, IsEnded, IsLinked, IsWalking, List, Move, Mode, Position, RuleSet, [], ap, arith, chess, cond, drop, ends_at_goal, get_or, is_legal, left_at_top, length, length-append, length-reverse, length-take, path, path_end, position, refl, reverse, reverse-append, rules, moves_shown, last_shown, shown_move, subst, sym, take, take-append-drop, take_all, take_more, true, ℕ, ◌++◌, ◌+◌, ◌-◌, ◌<◌, ◌∙◌, ◌∷◌, ◌≡◌, ◌≤◌, position_after}
 use Rattle.pop_walk.proofs.Outcomes.{CameFrom-deep, walking-close}
 use Rattle.pop_battle.specs.declared.chess.Reached.{Reached}
-use Rattle.pop_battle.specs.declared.chess.Reached.TheVariants.{Perhaps, Surely}
+use Rattle.pop_battle.specs.declared.chess.Reached.TheVariants.{Perhaps, Certainly}
 use Rattle.pop_walk.proofs.Walking.{popped}
 
 -- a path has one move fewer than frames
@@ -131,7 +131,7 @@ module _ (rule : RuleSet) where
 
       -- the move leads to the goal, where it ends with the goal
       pub back-ended : (mode : Mode) → IsEnded rule mode (reverse upper) board → (b : Reached)
-          → b ≡ cond (ends_at_goal mode.battle mode.variation f.left) Surely Perhaps → b ≡ Surely
+          → b ≡ cond (ends_at_goal mode.battle mode.variation f.left) Certainly Perhaps → b ≡ Certainly
           → (chess mode.goal rule).goal (position_after rule after f.by) ≡ true
       back-ended mode ended b e here = search (rules, back-again, stacked)
 

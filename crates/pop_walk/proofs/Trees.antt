@@ -1,5 +1,5 @@
 -- The walk shows exactly the tree of the definitions.
-use Rattle.pop_walk.proofs.Words.{Battle, Bool, Direct, Game, List, None, Mode, Selfmate, Some, [], continuations, ap, append-nil, arith, best_moves, cond, eqb, every_move, false, fewest_half_moves, filter, least_length_from, flat_map, flat_map_single, is_followed, is_emitted, walk_length, keeps_win, least_moves, lines_to_goal, list_all, map, nat_tests, node, nodes_below, not, shown_length, refl, rules, attacker_to_move, shown_paths, suc, sym, true, value, zero, ℕ, ◌%◌, ◌*◌, ◌++◌, ◌+◌, ◌-◌, ◌/◌, ◌<◌, ◌||◌, ◌∙◌, ◌∷◌, ◌≡◌, ◌≤◌, inl, inr}
+use Rattle.pop_walk.proofs.Words.{Battle, Bool, Direct, Game, List, None, Mode, SelfMate, Some, [], continuations, ap, append-nil, arith, best_moves, cond, eqb, every_move, false, fewest_half_moves, filter, least_length_from, flat_map, flat_map_single, is_followed, is_emitted, walk_length, keeps_win, least_moves, lines_to_goal, list_all, map, nat_tests, node, nodes_below, not, shown_length, refl, rules, attacker_to_move, shown_paths, suc, sym, true, value, zero, ℕ, ◌%◌, ◌*◌, ◌++◌, ◌+◌, ◌-◌, ◌/◌, ◌<◌, ◌||◌, ◌∙◌, ◌∷◌, ◌≡◌, ◌≤◌, inl, inr}
 use Rattle.pop_walk.proofs.Battles.{value-is_lost, value-is_self_lost, value-zero}
 use Rattle.pop_walk.proofs.Lengths.{length-more}
 use Rattle.pop_walk.proofs.GoingOn.{length_most, walk_length-keys, given-battle, walk_length-help, cases, least_length_from-least}
@@ -8,7 +8,7 @@ use Rattle.pop_walk.proofs.Least.{least_moves-direct, least_moves-selfmate}
 -- the half-moves of a battle with this number of moves
 abbrev pub halves : Battle → ℕ → ℕ
 halves Direct k = 2 * k - 1
-halves Selfmate k = 2 * k
+halves SelfMate k = 2 * k
 
 -- lists
 module _ {A B : Type 0} where
@@ -58,7 +58,7 @@ module _ {P M : Type 0} (game : Game P M) where
   attacker_to_move-step battle t = search rules
 
   attacker_to_move-halves : (battle : Battle) (t : ℕ) → attacker_to_move battle t ≡ true → 0 < t → (k : ℕ) × (t ≡ halves battle (suc k))
-  attacker_to_move-halves Selfmate t s some = let e : t % 2 ≡ 0 = grind (arith, nat_tests) in (t / 2 - 1, omega (arith, e, some))
+  attacker_to_move-halves SelfMate t s some = let e : t % 2 ≡ 0 = grind (arith, nat_tests) in (t / 2 - 1, omega (arith, e, some))
   attacker_to_move-halves Direct t s some = let e : t % 2 ≡ 1 = grind (arith, nat_tests) in (t / 2, omega (arith, e))
 
   -- the test of a move of White

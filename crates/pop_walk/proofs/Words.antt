@@ -29,7 +29,7 @@ pub use Rattle.pop_events.specs.Shown.{Shown}
 pub use Rattle.pop_walk.specs.Tree.{best_moves, keeps_win, least_moves, node, is_in_set_play, tree, wins_in}
 unfoldable pub use Rattle.pop_walk.specs.Tree.{continuations, nodes_below, set_tree}
 pub use Rattle.pop_stipulation.specs.declared.stipulation.Battle.{Battle}
-pub use Rattle.pop_stipulation.specs.declared.stipulation.Battle.TheVariants.{Direct, Selfmate}
+pub use Rattle.pop_stipulation.specs.declared.stipulation.Battle.TheVariants.{Direct, SelfMate}
 pub use Rattle.pop_events.specs.declared.event.Event.{Event}
 pub use Rattle.pop_events.specs.declared.event.Event.TheVariants.{Line, Node, Total}
 pub use Rattle.pop_events.specs.declared.event.Phase.{Phase}

@@ -2,7 +2,7 @@
 -- defence are the Codex's terms. That a tree shows exactly these, in the order of moves, and what set
 -- play is, are own rules.
 use Rattle.pop_stipulation.specs.declared.stipulation.Battle.{Battle}
-use Rattle.pop_stipulation.specs.declared.stipulation.Battle.TheVariants.{Direct, Selfmate}
+use Rattle.pop_stipulation.specs.declared.stipulation.Battle.TheVariants.{Direct, SelfMate}
 use Rattle.std.specs.Prelude.{ℕ, zero, suc, ◌-◌, Bool, ◌||◌, if◌then◌else◌, List, [], ◌∷◌, map}
 use Rattle.std.specs.List.{filter, flat_map, position_or_len, range_with_len}
 use Rattle.pop_battle.specs.Game.{Game, is_lost, wins, self_wins, is_self_lost}
@@ -16,12 +16,12 @@ module _ {P M : Type 0} where
   -- after a move by White that leads to q, White still wins within n moves, which include that move
   abbrev pub keeps_win : Battle → Game P M → ℕ → P → Bool
   keeps_win Direct game n q = is_lost game (n - 1) q
-  keeps_win Selfmate game n q = is_self_lost game (n - 1) q
+  keeps_win SelfMate game n q = is_self_lost game (n - 1) q
 
   -- White, to move, wins p within k moves
   abbrev pub wins_in : Battle → Game P M → ℕ → P → Bool
   wins_in Direct game k p = wins game k p
-  wins_in Selfmate game k p = self_wins game k p
+  wins_in SelfMate game k p = self_wins game k p
 
   -- the smallest number of moves, up to n, within which White, to move, wins p
   abbrev pub least_moves : Battle → Game P M → ℕ → P → ℕ
@@ -59,7 +59,7 @@ module _ {P M : Type 0} where
   -- set play shows the move by Black that leads to r
   abbrev pub is_in_set_play : Battle → Game P M → ℕ → P → Bool
   is_in_set_play Direct game n r = wins game (n - 1) r
-  is_in_set_play Selfmate game n r = game.goal r || self_wins game (n - 1) r
+  is_in_set_play SelfMate game n r = game.goal r || self_wins game (n - 1) r
 
   -- set play of h half-moves: a list of nodes for each first move by Black
   unfoldable pub set_tree : Battle → Game P M → Bool → ℕ → ℕ → P → List (List (List M))

@@ -5,7 +5,7 @@ ghost use Rattle.chess_core.specs.WellFormed.{IsWellFormed};
 ghost use Rattle.chess_rules.specs.Legal.{is_legal};
 ghost use Rattle.chess_rules.specs.Play.{position_after};
 ghost use Rattle.pop_battle.specs.Chess.{chess};
-ghost use Rattle.pop_stipulation.specs.declared.stipulation.Battle.TheVariants.{Selfmate};
+ghost use Rattle.pop_stipulation.specs.declared.stipulation.Battle.TheVariants.{SelfMate};
 ghost use Rattle.pop_battle.specs.ties.Values.{value};
 
 use crate::mode::Mode;
@@ -21,7 +21,7 @@ use std::mem;
 /// Selfmates keep no killers, and help play has no tests.
 fn wants_guess(battle: Option<Battle>, left: usize) -> bool
     ensures help { battle ≡ None → result ≡ false }
-    ensures selfmate { battle ≡ Some Selfmate → result ≡ false }
+    ensures selfmate { battle ≡ Some SelfMate → result ≡ false }
 {
     battle == Some(Battle::Direct) && left % 2 == 0
 }
@@ -38,10 +38,10 @@ fn cost_of_test<R: Rules>(
     requires few { left ≤ MOST_HALF_MOVES }
     ensures value { result.0 ≡ value aim.battle (chess aim.goal R.rule) left board.now }
 {
-    let mut stand = *board;
+    let mut copy = *board;
     let mut frames = ArrayVec::<Frame<R>, MOST_FRAMES>::new();
     let mut search_state = SearchState::with(mem::replace(killers, Killers::none()));
-    let wins = value_of::<R, MOST_FRAMES>(aim, left, &mut stand, &mut frames, &mut search_state);
+    let wins = value_of::<R, MOST_FRAMES>(aim, left, &mut copy, &mut frames, &mut search_state);
     let SearchState {
         killers: found,
         opened,
@@ -67,9 +67,9 @@ fn cost_of_defence<R: Rules>(
     ensures holds { is_some result ≡ not (value aim.battle (chess aim.goal R.rule) left
         (position_after R.rule board.now by)) }
 {
-    let mut stand = *board;
-    let _undo = play::<R>(&mut stand, by);
-    let (wins, opened) = cost_of_test::<R>(aim, left, &stand, killers);
+    let mut copy = *board;
+    let _undo = play::<R>(&mut copy, by);
+    let (wins, opened) = cost_of_test::<R>(aim, left, &copy, killers);
     if wins { None } else { Some(opened) }
 }
 
@@ -84,13 +84,13 @@ fn cheapest_defence<R: Rules>(
     requires well_formed { IsWellFormed board.now }
     requires few { left ≤ MOST_HALF_MOVES }
 {
-    let mut stand = *board;
+    let mut copy = *board;
     let mut cursor = None;
     let mut place = MovePlace::start();
     let mut best = None;
     let mut least = u64::MAX;
-    while let Some(by) = next_move::<R>(&mut cursor, &mut place, &mut stand) {
-        if let Some(cost) = cost_of_defence::<R>(aim, left, by, &stand, killers) {
+    while let Some(by) = next_move::<R>(&mut cursor, &mut place, &mut copy) {
+        if let Some(cost) = cost_of_defence::<R>(aim, left, by, &copy, killers) {
             if cost < least {
                 least = cost;
                 best = Some(place);
@@ -126,7 +126,7 @@ pub(crate) fn guess_killers<R: Rules>(
     requires legal { is_legal R.rule board.now by ≡ true }
     requires few { left ≤ MOST_HALF_MOVES }
     ensures help { mode.battle ≡ None → killers.new ≡ killers.old }
-    ensures selfmate { mode.battle ≡ Some Selfmate → killers.new ≡ killers.old }
+    ensures selfmate { mode.battle ≡ Some SelfMate → killers.new ≡ killers.old }
 {
     if !wants_guess(mode.battle, left) {
         return;
@@ -135,13 +135,13 @@ pub(crate) fn guess_killers<R: Rules>(
         battle: Battle::Direct,
         goal: mode.goal,
     };
-    let mut stand = *board;
-    let _undo = play::<R>(&mut stand, by);
+    let mut copy = *board;
+    let _undo = play::<R>(&mut copy, by);
     for half in 1..left / 2 {
         let tried = 2 * half;
-        let _cost = cost_of_test::<R>(aim, tried, &stand, killers);
+        let _cost = cost_of_test::<R>(aim, tried, &copy, killers);
         if tried + 4 <= left {
-            choose_killer::<R>(aim, tried, &stand, killers);
+            choose_killer::<R>(aim, tried, &copy, killers);
         }
         killers.lengthen();
     }

@@ -18,7 +18,7 @@ use crate::showing::{last_shown, line};
 use crate::walk::{opened_with, step, step_back};
 use arrayvec::ArrayVec;
 use chess_core::Board;
-use chess_rules::{MovePlace, Rules};
+use chess_rules::Rules;
 use pop_battle::chess::{is_impossible, turn_back, turn_over};
 use pop_battle::{Frame, SearchState};
 use pop_events::{Event, Phase};
@@ -81,7 +81,7 @@ pub fn phase_half_moves(problem: &Problem, phase: Phase) -> usize
 
 impl Walk {
     /// Returns how to walk a phase of a problem.
-    pub(crate) fn of(problem: &Problem, phase: Phase, scope: Scope) -> Walk
+    pub fn of(problem: &Problem, phase: Phase, scope: Scope) -> Walk
         ensures { result ≡ walk_of problem.now phase scope }
     {
         Walk {
@@ -261,9 +261,7 @@ fn begin<R: Rules, const N: usize, const PRUNES: bool>(
     let walk = Walk::of(problem, phase, Scope::Whole);
     let left = walk.half_moves;
     frames.push(Frame {
-        place: MovePlace::start(),
         left,
-        cursor: None,
         ..Frame::default()
     });
     search_state.opened = opened_with(search_state.opened, left);

@@ -9,6 +9,7 @@ ghost use Rattle.pop_walk.specs.ties.Walk.{AreEndsAfter, IsKingOff, IsWellFormed
 
 use crate::mode::Mode;
 use arrayvec::ArrayVec;
+use chess_attacks::words::contains;
 use chess_core::{Board, Move, Squares};
 use chess_flights::attackers::has_fairy_promotions;
 use chess_reach::mating_squares;
@@ -20,13 +21,13 @@ use pop_stipulation::Goal;
 /// it saves.
 const FEWEST_COMPUTED: usize = 3;
 
-/// The most men of the mating side with which it does.
+/// The most men of the mating side with which the walk computes where lines can end.
 const MOST_COMPUTED: u32 = 8;
 
-/// The most where captured men are reborn, so that more squares stay in reach.
+/// The most such men in Circe, where captured men are reborn, so that more squares stay in reach.
 const MOST_COMPUTED_REBORN: u32 = 3;
 
-/// Returns what is known of the lines that reach this goal: that they end on some square, if nothing is.
+/// Returns where lines to this goal can end: on every square if nothing is known.
 fn line_ends_or_all(goal: Goal, line_ends: Option<LineEnds>) -> LineEnds
     ensures goal { result.goal ≡ goal }
     ensures line_ends { (line_ends ≡ Some result) ⊎ (result.squares ≡ 2 ^ 64 - 1) }
@@ -51,7 +52,7 @@ fn ends_off<R: Rules>(squares: Squares, by: Move, board: &Board) -> bool
         return false;
     };
     let end = if by.from == king { by.to } else { king };
-    squares >> end.index() & 1 == 0
+    !contains(squares, end)
 }
 
 /// Returns the part of `squares` on which lines can still end after a legal move of help play, with `left`

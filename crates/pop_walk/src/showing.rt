@@ -9,7 +9,7 @@ ghost use Rattle.pop_events.specs.Shown.{shown_move};
 ghost use Rattle.pop_walk.specs.Events.{moves_shown, last_shown};
 ghost use Rattle.pop_battle.specs.ties.Frames.{CameFrom, CameFromAt, left_at_top};
 ghost use Rattle.pop_walk.specs.ties.Walk.{ends_at_goal, IsEnded, IsWalking, path};
-ghost use Rattle.pop_battle.specs.declared.chess.Reached.TheVariants.{Perhaps, Surely};
+ghost use Rattle.pop_battle.specs.declared.chess.Reached.TheVariants.{Perhaps, Certainly};
 ghost use Rattle.std.specs.Prelude.{◌≡◌, ◌+◌, ◌<◌, ◌≤◌, ℕ, if◌then◌else◌, length, reverse, true};
 
 use crate::mode::Mode;
@@ -35,12 +35,12 @@ fn unplay_frame<R: Rules>(frame: &Frame<R>, board: &mut Board)
 /// help play; in a direct mate or stalemate with variations, where a whole variation ends.
 fn reached_at<R: Rules>(mode: Mode, frame: &Frame<R>) -> Reached
     ensures { result ≡ if ends_at_goal mode.battle mode.variation frame.now.left
-        then Surely else Perhaps }
+        then Certainly else Perhaps }
 {
     match mode.battle {
-        None => Reached::Surely,
+        None => Reached::Certainly,
         Some(battle) if frame.left == 0 && mode.variation && attacker_to_move(battle, 1) => {
-            Reached::Surely
+            Reached::Certainly
         }
         _ => Reached::Perhaps,
     }
@@ -51,7 +51,7 @@ fn reached_at<R: Rules>(mode: Mode, frame: &Frame<R>) -> Reached
 #[tactic(auto, using(crate::proofs::Paths::left_last))]
 fn reached_along<R: Rules>(mode: Mode, frames: &[Frame<R>], k: usize) -> Reached
     requires { k < length frames.now }
-    ensures { result ≡ Surely → (k + 1 ≡ length frames.now)
+    ensures { result ≡ Certainly → (k + 1 ≡ length frames.now)
         × (ends_at_goal mode.battle mode.variation (left_at_top (reverse frames.now))
         ≡ true) }
 {
@@ -67,7 +67,7 @@ fn reached_along<R: Rules>(mode: Mode, frames: &[Frame<R>], k: usize) -> Reached
 fn play_shown<R: Rules>(goal: Goal, reached: Reached, frame: &Frame<R>, board: &mut Board) -> Shown
     requires well_formed { IsWellFormed board.old }
     requires legal { is_legal R.rule board.old frame.now.by ≡ true }
-    requires reached { reached ≡ Surely
+    requires reached { reached ≡ Certainly
         → (chess goal R.rule).goal (position_after R.rule board.old frame.now.by) ≡ true }
     ensures shown { result ≡ shown_move goal R.rule board.old frame.now.by }
     ensures after { board.new ≡ position_after R.rule board.old frame.now.by }

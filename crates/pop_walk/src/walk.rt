@@ -30,7 +30,7 @@ fn fewest_half_moves(battle: Battle) -> usize
 {
     match battle {
         Battle::Direct => 1,
-        Battle::Selfmate => 2,
+        Battle::SelfMate => 2,
     }
 }
 
@@ -322,7 +322,7 @@ fn next_risky<R: Rules>(
 /// Returns the next legal move after `place` to which a reply may mate; without threats, the next legal
 /// move.
 #[tactic(auto, using(pop_battle::proofs::Skipping::without_filter))]
-fn next_matable<R: Rules>(
+fn next_allowing_mate<R: Rules>(
     cursor: &mut Option<LegalCursor<R>>,
     place: &mut MovePlace,
     board: &mut Board,
@@ -376,7 +376,7 @@ fn next_of<R: Rules>(
         return next_mate::<R>(place, board);
     }
     if may_skip(mode, left) {
-        return next_matable::<R>(cursor, place, board, search_state);
+        return next_allowing_mate::<R>(cursor, place, board, search_state);
     }
     next_move::<R>(cursor, place, board)
 }

@@ -9,7 +9,7 @@ use std::marker::Model;
 
 /// A sink that keeps at most N bytes. It fails only when it is full.
 #[derive(Drop)]
-pub struct MemorySink<const N: usize> {
+pub(crate) struct MemorySink<const N: usize> {
     text: ArrayVec<u8, N>,
     failures: u64,
 }
@@ -27,7 +27,7 @@ impl<const N: usize> Model for MemorySink<N> {
 
 impl<const N: usize> MemorySink<N> {
     /// Returns an empty sink.
-    pub fn new() -> MemorySink<N>
+    pub(crate) fn new() -> MemorySink<N>
         ensures { result ≡ record { taken = []; failures = 0 } }
     {
         MemorySink {
@@ -37,7 +37,7 @@ impl<const N: usize> MemorySink<N> {
     }
 
     /// Returns the bytes that the sink keeps: N bytes if a call has failed.
-    pub fn text(&self) -> &[u8]
+    pub(crate) fn text(&self) -> &[u8]
         ensures text { result.now ≡ self.now.taken }
         ensures room { length result.now ≤ N }
         ensures full { 0 < self.now.failures → length result.now ≡ N }

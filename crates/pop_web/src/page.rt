@@ -19,7 +19,13 @@ const ROOM: usize = 1 << 22;
 // `call` on a source of the input and a sink in memory, copies what the sink keeps to the front of the output, and
 // returns `number`, by which the page knows the ending. An output that is too small is refused.
 macro_rules! on_text {
-    ($input:ident, $output:ident, $written:ident, |$source:ident, $sink:ident| $call:expr, |$ending:ident| $number:expr) => {{
+    (
+        $input:ident,
+        $output:ident,
+        $written:ident,
+        |$source:ident, $sink:ident| $call:expr,
+        |$ending:ident| $number:expr
+    ) => {{
         if $output.len() < ROOM {
             return refuse($written);
         }

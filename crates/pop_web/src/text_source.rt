@@ -7,13 +7,13 @@ use pop_text::{Device, Source};
 
 /// A source of a text in memory. It never fails.
 #[derive(Drop)]
-pub struct TextSource<'a> {
+pub(crate) struct TextSource<'a> {
     rest: &'a [u8],
 }
 
 impl<'a> TextSource<'a> {
     /// Returns a source of the whole text.
-    pub fn new(text: &'a [u8]) -> TextSource<'a>
+    pub(crate) fn new(text: &'a [u8]) -> TextSource<'a>
         ensures { ⟦<TextSource<'a> as Source>⟧.remaining result ≡ Some text.now }
     {
         TextSource { rest: text }

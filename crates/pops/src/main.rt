@@ -12,6 +12,7 @@ pub mod program;
 mod tests;
 
 use pop_program::on_words;
+use pop_run::EXIT_OUT_OF_MEMORY;
 use program::program as run_program;
 use std::io;
 use std::process::ExitCode;
@@ -21,7 +22,7 @@ fn main(rt: HostRuntime) -> ExitCode {
         Ok(status) => ExitCode::from(status),
         Err(_) => {
             let _reported = rt.stderr().write_all(b"pops: out of memory\n");
-            ExitCode::from(4)
+            ExitCode::from(EXIT_OUT_OF_MEMORY)
         }
     }
 }

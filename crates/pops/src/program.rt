@@ -2,7 +2,7 @@
 ghost use Rattle.std.specs.Prelude.{◌≡◌, ◌≤◌};
 
 use pop_program::{on_input, refuse};
-use pop_run::{Settings, run};
+use pop_run::{EXIT_DEVICE_FAILED, EXIT_OUT_OF_MEMORY, EXIT_REFUSED, Settings, run};
 use pop_settings::{ArgFault, settings};
 use pop_text::{ReadSource, WriteSink};
 use std::io::{Read, Write};
@@ -29,23 +29,27 @@ pub fn program<T: Files + AllocGlobal, R: Read + Drop, W: Write + Drop, E: Write
     output: W,
     errors: E,
 ) -> u8
-    ensures { result ≤ 4 }
+    ensures { result ≤ EXIT_OUT_OF_MEMORY }
 {
     let settings = match settings(rt.alloc(), words) {
         Ok(settings) => settings,
         Err(ArgFault::Usage) => return refuse(
             errors,
             b"pops: usage: pops [--check] [--no-board] [FILE]\n",
-            2,
+            EXIT_REFUSED,
         ),
-        Err(ArgFault::Memory) => return refuse(errors, b"pops: out of memory\n", 4),
+        Err(ArgFault::Memory) => return refuse(
+            errors,
+            b"pops: out of memory\n",
+            EXIT_OUT_OF_MEMORY,
+        ),
     };
     on_input!(
         rt,
         &settings.file,
         input,
         source => report(&settings, source, output, errors),
-        refuse(errors, b"pops: cannot open the input file\n", 3)
+        refuse(errors, b"pops: cannot open the input file\n", EXIT_DEVICE_FAILED)
     )
 }
 
@@ -56,7 +60,7 @@ fn report<R: Read + Drop, W: Write + Drop, E: Write + Drop>(
     output: W,
     errors: E,
 ) -> u8
-    ensures { result ≤ 4 }
+    ensures { result ≤ EXIT_OUT_OF_MEMORY }
 {
     let mut source = ReadSource::new(input);
     let mut sink = WriteSink::new(output);
@@ -65,6 +69,6 @@ fn report<R: Read + Drop, W: Write + Drop, E: Write + Drop>(
     let flushed = output.flush().is_ok();
     match status.exit_status(flushed) {
         Some(status) => status,
-        None => refuse(errors, b"pops: output failed\n", 3),
+        None => refuse(errors, b"pops: output failed\n", EXIT_DEVICE_FAILED),
     }
 }

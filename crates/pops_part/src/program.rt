@@ -11,7 +11,9 @@ use pop_events::Phase;
 use pop_faults::list_faults;
 use pop_parts::{Outcome, PartRequest, list_parts, show_parts};
 use pop_program::{on_input, refuse};
-use pop_run::Status;
+use pop_run::{
+    EXIT_DEVICE_FAILED, EXIT_FAULTY, EXIT_OUT_OF_MEMORY, EXIT_REFUSED, EXIT_SOUND, Status,
+};
 use pop_settings::ArgFault;
 use pop_settings::pops_part::{NamedParts, PhaseName, Wanted, settings};
 use pop_text::{ReadSource, Sink, Source, WriteSink};
@@ -55,23 +57,27 @@ pub fn program<T: Files + AllocGlobal, R: Read + Drop, W: Write + Drop, E: Write
     output: W,
     errors: E,
 ) -> u8
-    ensures { result ≤ 4 }
+    ensures { result ≤ EXIT_OUT_OF_MEMORY }
 {
     let settings = match settings(rt.alloc(), words) {
         Ok(settings) => settings,
         Err(ArgFault::Usage) => return refuse(
             errors,
             b"pops-part: usage: pops-part --list [--depth D] [FILE]\n       pops-part --item I --phase set|play --part A[..B] [--depth D] [FILE]\n       pops-part --faults [FILE]\n",
-            2,
+            EXIT_REFUSED,
         ),
-        Err(ArgFault::Memory) => return refuse(errors, b"pops-part: out of memory\n", 4),
+        Err(ArgFault::Memory) => return refuse(
+            errors,
+            b"pops-part: out of memory\n",
+            EXIT_OUT_OF_MEMORY,
+        ),
     };
     on_input!(
         rt,
         &settings.file,
         input,
         source => report(&settings.wanted, source, output, errors),
-        refuse(errors, b"pops-part: cannot open the input file\n", 3)
+        refuse(errors, b"pops-part: cannot open the input file\n", EXIT_DEVICE_FAILED)
     )
 }
 
@@ -83,7 +89,7 @@ fn report<R: Read + Drop, W: Write + Drop, E: Write + Drop>(
     errors: E,
 ) -> u8
     requires { HasDepth wanted.now }
-    ensures { result ≤ 4 }
+    ensures { result ≤ EXIT_OUT_OF_MEMORY }
 {
     let mut source = ReadSource::new(input);
     let mut sink = WriteSink::new(output);
@@ -190,10 +196,10 @@ fn status_of(ending: Ending) -> u8
     ensures { result ≡ status_of ending }
 {
     match ending {
-        Ending::Done => 0,
-        Ending::Faulty => 1,
-        Ending::Refused(_) => 2,
-        Ending::InputFailed | Ending::OutputFailed => 3,
+        Ending::Done => EXIT_SOUND,
+        Ending::Faulty => EXIT_FAULTY,
+        Ending::Refused(_) => EXIT_REFUSED,
+        Ending::InputFailed | Ending::OutputFailed => EXIT_DEVICE_FAILED,
     }
 }
 

@@ -3,7 +3,7 @@ ghost use Rattle.std.specs.Prelude.{◌≡◌, ◌≤◌};
 ghost use Rattle.pop_settings.specs.pops_tries.CommandLine.{most_refutations};
 
 use pop_program::{on_input, refuse};
-use pop_run::Choice;
+use pop_run::{Choice, EXIT_DEVICE_FAILED, EXIT_OUT_OF_MEMORY, EXIT_REFUSED};
 use pop_settings::ArgFault;
 use pop_settings::pops_tries::{Settings, settings};
 use pop_text::{ReadSource, WriteSink};
@@ -32,23 +32,27 @@ pub fn program<T: Files + AllocGlobal, R: Read + Drop, W: Write + Drop, E: Write
     output: W,
     errors: E,
 ) -> u8
-    ensures { result ≤ 4 }
+    ensures { result ≤ EXIT_OUT_OF_MEMORY }
 {
     let settings = match settings(rt.alloc(), words) {
         Ok(settings) => settings,
         Err(ArgFault::Usage) => return refuse(
             errors,
             b"pops-tries: usage: pops-tries [--check] [--no-board] [--refutations N] [FILE]\n",
-            2,
+            EXIT_REFUSED,
         ),
-        Err(ArgFault::Memory) => return refuse(errors, b"pops-tries: out of memory\n", 4),
+        Err(ArgFault::Memory) => return refuse(
+            errors,
+            b"pops-tries: out of memory\n",
+            EXIT_OUT_OF_MEMORY,
+        ),
     };
     on_input!(
         rt,
         &settings.file,
         input,
         source => report(&settings, source, output, errors),
-        refuse(errors, b"pops-tries: cannot open the input file\n", 3)
+        refuse(errors, b"pops-tries: cannot open the input file\n", EXIT_DEVICE_FAILED)
     )
 }
 
@@ -60,7 +64,7 @@ fn report<R: Read + Drop, W: Write + Drop, E: Write + Drop>(
     errors: E,
 ) -> u8
     requires { settings.now.refutations ≤ most_refutations }
-    ensures { result ≤ 4 }
+    ensures { result ≤ EXIT_OUT_OF_MEMORY }
 {
     let mut source = ReadSource::new(input);
     let mut sink = WriteSink::new(output);
@@ -74,7 +78,7 @@ fn report<R: Read + Drop, W: Write + Drop, E: Write + Drop>(
     let flushed = output.flush().is_ok();
     match status.exit_status(flushed) {
         Some(status) => status,
-        None => refuse(errors, b"pops-tries: output failed\n", 3),
+        None => refuse(errors, b"pops-tries: output failed\n", EXIT_DEVICE_FAILED),
     }
 }
 

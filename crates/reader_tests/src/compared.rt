@@ -49,14 +49,18 @@ pub(crate) fn agree(input: &[u8], at_most: usize) -> bool
         && read(input, at_most, true).as_slice() == items(input, true).as_slice()
 }
 
+/// How many kinds of items there are: a sound problem, and the faults 1 to 21.
+pub(crate) const ITEM_KINDS: usize = 22;
+
 /// Marks the numbers of the faults of an input, and 0 if it has a sound problem.
-pub(crate) fn mark(input: &[u8], failed: bool, seen: &mut [bool; 22]) {
+pub(crate) fn mark(input: &[u8], failed: bool, seen: &mut [bool; ITEM_KINDS]) {
     for reported in items(input, failed).as_slice() {
         match reported {
             Expected::Sound(_) => seen[0] = true,
             Expected::Faulty(number, _) => {
-                if *number < 22 {
-                    seen[*number as usize] = true;
+                let number = *number as usize;
+                if number < ITEM_KINDS {
+                    seen[number] = true;
                 }
             }
         }

@@ -84,7 +84,7 @@ fn castling_rights_of(diagram: &Diagram) -> [bool; 6] {
 fn form_of(form: Form) -> u8 {
     match form {
         Form::Direct => 0,
-        Form::Selfmate => 1,
+        Form::SelfMate => 1,
         Form::Help => 2,
         Form::HelpHalf => 3,
     }

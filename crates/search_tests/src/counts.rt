@@ -131,7 +131,7 @@ fn try_all<R: Rules>(problem: &Problem) -> Tried {
     }
     let battle = Battle {
         goal: problem.stipulation().goal,
-        selfmate: problem.stipulation().form == Form::Selfmate,
+        selfmate: problem.stipulation().form == Form::SelfMate,
     };
     let left = half_moves(problem).saturating_sub(1);
     let mut here = Board::of(&diagram);

@@ -392,7 +392,7 @@ fn phase<R: Rules>(
     let stipulation = problem.stipulation();
     let battle = Battle {
         goal: stipulation.goal,
-        selfmate: stipulation.form == Form::Selfmate,
+        selfmate: stipulation.form == Form::SelfMate,
         moves: stipulation.n,
     };
     let left = if problem.variation() {
@@ -414,8 +414,8 @@ fn phase<R: Rules>(
                 0,
             );
         }
-        Form::Direct | Form::Selfmate if in_set => set::<R>(reported, battle, board, left),
-        Form::Direct | Form::Selfmate => {
+        Form::Direct | Form::SelfMate if in_set => set::<R>(reported, battle, board, left),
+        Form::Direct | Form::SelfMate => {
             white::<R>(reported, battle, board, stipulation.n, 0, left);
         }
     }

@@ -7,7 +7,7 @@ use crate::plain::solve;
 use arrayvec::ArrayVec;
 use chess_rules::{Circe, Madrasi, Orthodox, Rules};
 use pop_events::Event;
-use pop_input::{Condition, Item, Problem, Reader};
+use pop_input::{Condition, Item, MOST_FRAMES, Problem, Reader};
 use pop_print::print_event;
 use pop_solve::{PrunedSearch, Search};
 use pop_text::{TrialSink, TrialSource};
@@ -58,9 +58,9 @@ pub(crate) fn half_moves(problem: &Problem) -> usize
 fn run_pruned<R: Rules>(problem: &Problem) -> (ArrayVec<u8, 4096>, u64)
     requires { R.rule ≡ rule_of problem.now.condition }
 {
-    // For the proof: the stipulation of a problem that was read has at most 32 half-moves.
+    // For the proof: a problem that was read has fewer half-moves than `MOST_FRAMES`.
     let _half_moves = half_moves(problem);
-    let mut search = PrunedSearch::<R, 33>::new(problem);
+    let mut search = PrunedSearch::<R, MOST_FRAMES>::new(problem);
     let mut text = ArrayVec::new();
     for _event in 0..ALL {
         let Some(event) = search.next() else {
@@ -75,7 +75,7 @@ fn run_pruned<R: Rules>(problem: &Problem) -> (ArrayVec<u8, 4096>, u64)
 fn run<R: Rules, const N: usize>(problem: &Problem, most: u64) -> Given
     requires rule { R.rule ≡ rule_of problem.now.condition }
     requires room { half_moves problem.now.stipulation < N }
-    requires few { N ≤ 33 }
+    requires few { N ≤ MOST_FRAMES }
 {
     let mut search = Search::<R, N>::new(problem);
     let mut text = ArrayVec::new();
@@ -118,7 +118,7 @@ fn run_tight<R: Rules>(problem: &Problem) -> Option<Given>
         4 => run::<R, 5>(problem, ALL),
         5 => run::<R, 6>(problem, ALL),
         31 => run::<R, 32>(problem, ALL),
-        32 => run::<R, 33>(problem, ALL),
+        32 => run::<R, MOST_FRAMES>(problem, ALL),
         _ => return None,
     })
 }
@@ -150,7 +150,7 @@ fn is_searched_under<R: Rules>(problem: &Problem, row: &Row) -> bool
     requires { R.rule ≡ rule_of problem.now.condition }
 {
     let half_moves = half_moves(problem);
-    let whole = run::<R, 33>(problem, ALL);
+    let whole = run::<R, MOST_FRAMES>(problem, ALL);
     let Some(tight) = run_tight::<R>(problem) else {
         return false;
     };
@@ -168,7 +168,7 @@ fn is_searched_under<R: Rules>(problem: &Problem, row: &Row) -> bool
         return false;
     }
     for events in 0..whole.events {
-        if !run::<R, 33>(problem, events).begins(events, &whole) {
+        if !run::<R, MOST_FRAMES>(problem, events).begins(events, &whole) {
             return false;
         }
     }
@@ -191,9 +191,9 @@ pub(crate) fn is_searched(row: &Row) -> bool {
 fn agrees_under<R: Rules>(problem: &Problem) -> bool
     requires { R.rule ≡ rule_of problem.now.condition }
 {
-    // For the proof: the stipulation of a problem that was read has at most 32 half-moves.
+    // For the proof: a problem that was read has fewer half-moves than `MOST_FRAMES`.
     let _half_moves = half_moves(problem);
-    let given = run::<R, 33>(problem, ALL);
+    let given = run::<R, MOST_FRAMES>(problem, ALL);
     let pruned = run_pruned::<R>(problem);
     let plain = solve::<R>(problem);
     given.text.as_slice() == plain.as_slice() && pruned.0.as_slice() == plain.as_slice()

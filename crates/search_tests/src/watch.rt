@@ -6,7 +6,7 @@ use crate::row::half_moves;
 use arrayvec::ArrayVec;
 use chess_rules::{Circe, Madrasi, Orthodox, Rules};
 use pop_events::{Event, Mark, Phase, Shown};
-use pop_input::{Condition, Problem};
+use pop_input::{Condition, MOST_FRAMES, Problem};
 use pop_solve::Search;
 use std::process::Abort;
 
@@ -136,7 +136,7 @@ fn note(event: &Event, opened: u64, seen: &mut Seen, stood: &mut ShownPositions)
 fn watch_under<R: Rules>(rt: &impl Abort, problem: &Problem, most: u64) -> Seen
     requires { R.rule ≡ rule_of problem.now.condition }
 {
-    // For the proof: a stipulation that was read has at most 32 half-moves.
+    // For the proof: a problem that was read has fewer half-moves than `MOST_FRAMES`.
     let _half_moves = half_moves(problem);
     let mut seen = Seen::default();
     let mut stood = ShownPositions {
@@ -144,7 +144,7 @@ fn watch_under<R: Rules>(rt: &impl Abort, problem: &Problem, most: u64) -> Seen
         below: 0,
         positions: 0,
     };
-    let mut search = Search::<R, 33>::new(problem);
+    let mut search = Search::<R, MOST_FRAMES>::new(problem);
     assert_eq!(rt; search.opened(), 0);
     for _event in 0..ALL {
         let Some(event) = search.next() else {

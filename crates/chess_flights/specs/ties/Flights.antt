@@ -45,8 +45,8 @@ pub record AreOpen (rule : RuleSet) (men : List (Option Man)) (c : Colour) (k w 
 
 -- after a move by x, not a king, the king of colour c on k may step to exactly the squares of w, attacked
 -- or not; in Circe perhaps to others
-pub record AreSteps (rule : RuleSet) (men : List (Option Man)) (x : Man) (c : Colour) (k w : ℕ) : Type
-    0 where
+pub record AreSteps (rule : RuleSet) (men : List (Option Man)) (x : Man) (c : Colour)
+    (k w : ℕ) : Type 0 where
   pub inside : (t : ℕ) → t < 64 → (bit_at w t == 1) ≡ true → is_open rule men c k t ≡ true
   pub outside : same_kind x.kind King ≡ false → captures_are_reborn rule ≡ false → (t : ℕ) → t < 64
       → (bit_at w t == 1) ≡ false → is_open rule men c k t ≡ false
@@ -91,12 +91,14 @@ occupancy_stepped v k t = record {
 
 -- after the step from k to t no man of the stepping side but the king reaches s, where the mover, of colour
 -- c, has its king
-pub record IsQuietTo (before : List (Option Man)) (c : Colour) (v : Occupancy) (k t s : ℕ) : Type 0 where
+pub record IsQuietTo (before : List (Option Man)) (c : Colour) (v : Occupancy)
+    (k t s : ℕ) : Type 0 where
   pub unreached : (men : List (Option Man))
       → DescribesMen before men (other c) (occupancy_stepped v k t)
       → is_reached men s (other c) ≡ false
 
 -- on each square of w a man of colour c other than the moved one reaches the king there
-pub record AreUnsafe (before : List (Option Man)) (c : Colour) (v : Occupancy) (w : ℕ) : Type 0 where
+pub record AreUnsafe (before : List (Option Man)) (c : Colour) (v : Occupancy)
+    (w : ℕ) : Type 0 where
   pub reached : (t : ℕ) → t < 64 → (bit_at w t == 1) ≡ true → (men : List (Option Man))
       → DescribesMen before men c (occupancy_with v t) → is_reached men t c ≡ true

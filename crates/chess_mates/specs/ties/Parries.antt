@@ -50,7 +50,8 @@ IsWayBetween men p s t =
 
 -- after x has arrived by m, an unpinned enemy goes to an empty square on no fairy line, and x then doesn't
 -- reach the king on k
-pub record IsInterposed (men : List (Option Man)) (p : Position) (x : Man) (m : Move) (k : ℕ) : Type 0 where
+pub record IsInterposed (men : List (Option Man)) (p : Position) (x : Man) (m : Move)
+    (k : ℕ) : Type 0 where
   pub from : ℕ
   pub square : ℕ
   pub small : square < 64

@@ -36,13 +36,15 @@ pub record StaysAway (rb : Bool) (g : Guard) (e : End) : Type 0 where
   pub advances : rb ≡ false → g.kind ≡ Pawn → e.kind ≡ Pawn → e.square ≡ g.from → e.moves ≡ 0
 
 -- the guards are the men of colour c, each with its chain of m moves and captures on the bitboard `prey`
-pub record AreGuards (rb : Bool) (prey : ℕ) (men : List (Option Man)) (c : Colour) (m : ℕ) (gs : List Guard) (count : ℕ) : Type 0 where
+pub record AreGuards (rb : Bool) (prey : ℕ) (men : List (Option Man)) (c : Colour) (m : ℕ)
+    (gs : List Guard) (count : ℕ) : Type 0 where
   pub few : count ≤ 8
   pub each : (i : ℕ) → i < count
       → man_on men (guard_at gs i).from ≡ Some (record { colour = c; kind = (guard_at gs i).kind })
   pub small : (i : ℕ) → i < count → (guard_at gs i).from < 64
   pub chains : (i : ℕ) → i < count
-      → IsChain rb prey (record { colour = c; kind = (guard_at gs i).kind }) (guard_at gs i).from m (guard_at gs i).chain
+      → IsChain rb prey (record { colour = c; kind = (guard_at gs i).kind }) (guard_at gs i).from m
+      (guard_at gs i).chain
   pub all : (s : ℕ) → s < 64 → is_of_colour (man_on men s) c ≡ true
       → (i : ℕ) × (i < count) × ((guard_at gs i).from ≡ s)
   pub sum : (f : ℕ → ℕ) → sum_by (λ i. f (guard_at gs i).from) (range_with_len 0 count)
@@ -53,7 +55,9 @@ abbrev pub is_blocker : List (Option Man) → Colour → ℕ → Bool
 is_blocker men c s = is_of_colour (man_on men s) c && not (is_man (man_on men s) c King)
 
 -- the squares of ws to which men of colour c other than the king get, by the number of moves, up to m
-pub record AreBlocks (rb : Bool) (allowed : Kind → Bool) (men : List (Option Man)) (c : Colour) (m : ℕ) (ws : List ℕ) : Type 0 where
+pub record AreBlocks (rb : Bool) (allowed : Kind → Bool) (men : List (Option Man)) (c : Colour)
+    (m : ℕ) (ws : List ℕ) : Type 0 where
   pub gets : (s : ℕ) (x : Man) (n : ℕ) (j : Kind) (t : ℕ) → s < 64 → man_on men s ≡ Some x
-      → is_blocker men c s ≡ true → n ≤ m → (takes : ℕ → Bool) → Gets rb allowed takes x.colour n x.kind s j t
+      → is_blocker men c s ≡ true → n ≤ m → (takes : ℕ → Bool)
+      → Gets rb allowed takes x.colour n x.kind s j t
       → (bit_at (slice_index_or ws n 0) t == 1) ≡ true

@@ -74,14 +74,16 @@ unpaid q posts ends =
 
 -- guards end in their posts, with at most `ours` moves beyond those, and hold the squares of w with
 -- blockers that spend at most `theirs` moves
-pub record Holds (q : Quest) (men : List (Option Man)) (posts : List Post) (w ours theirs : ℕ) (ends : Ends) : Type 0 where
+pub record Holds (q : Quest) (men : List (Option Man)) (posts : List Post) (w ours theirs : ℕ)
+    (ends : Ends) : Type 0 where
   pub guards : (i : ℕ) → i < q.count → CanEnd (guard_at q.guards i) (end_at q ends i)
   pub away : (i : ℕ) → i < q.count
       → StaysAway q.ending.are_reborn (guard_at q.guards i) (end_at q ends i)
   pub blockers : (s : ℕ) → s < 64 → is_blocker men (other q.colour) s ≡ true
       → (bit_at (slice_index_or q.blockable (ends s).moves 0) (ends s).square == 1) ≡ true
   pub few : (s : ℕ) → s < 64 → is_blocker men (other q.colour) s ≡ true → (ends s).moves < 9
-  pub inside : (i : ℕ) → i < q.count → IsIn (guard_at q.guards i) (post_at posts i) (end_at q ends i)
+  pub inside : (i : ℕ) → i < q.count
+      → IsIn (guard_at q.guards i) (post_at posts i) (end_at q ends i)
   pub paid : unpaid q posts ends ≤ ours
   pub blocking : blocked q men ends w ≤ theirs
   pub holds : (t : ℕ) → t < 64 → (bit_at w t == 1) ≡ true → IsHeld q men ends t
@@ -92,7 +94,8 @@ pub record IsApart (q : Quest) (ends : Ends) : Type 0 where
       → guards q.colour King (end_at q ends i).square q.king ≡ false
 
 -- guards capture as pawns on the bitboard `prey` alone, and some captured man makes at least n moves
-pub record Captures (rb : Bool) (prey n : ℕ) (p : Position) (c : Colour) (ends : Ends) : Type 0 where
+pub record Captures (rb : Bool) (prey n : ℕ) (p : Position) (c : Colour)
+    (ends : Ends) : Type 0 where
   pub on : TakesOn (may_capture rb p.men c ends c) prey
   pub moves : 0 < n → (s : ℕ) × (s < 64) × (is_blocker p.men (other c) s ≡ true)
       × ((ends s).taken ≡ true) × (n ≤ (ends s).moves)
@@ -101,23 +104,28 @@ pub record Captures (rb : Bool) (prey n : ℕ) (p : Position) (c : Colour) (ends
 pub record IsBegun (p : Position) (q : Quest) (king : Guard) (theirs : ℕ) : Type 0 where
   pub size : length p.men ≡ 64
   pub few : theirs < 9
-  pub blocks : AreBlocks q.ending.are_reborn (may_promote p) p.men (other q.colour) theirs q.blockable
+  pub blocks : AreBlocks q.ending.are_reborn (may_promote p) p.men (other q.colour) theirs
+      q.blockable
   pub usual : IsUsual (may_promote p)
   pub kind : king.kind ≡ King
   pub stands : king_square p.men (other q.colour) ≡ Some king.from
   pub small : king.from < 64
-  pub way : IsChain q.ending.are_reborn (2 ^ 64 - 1) (record { colour = other q.colour; kind = King })
+  pub way : IsChain q.ending.are_reborn (2 ^ 64 - 1)
+      (record { colour = other q.colour; kind = King })
       king.from theirs king.chain
 
 -- the quest has the guards, the blockers and the king of the position
-pub record IsQuestOf (prey : ℕ) (p : Position) (q : Quest) (king : Guard) (ours theirs : ℕ) : Type 0 where
+pub record IsQuestOf (prey : ℕ) (p : Position) (q : Quest) (king : Guard)
+    (ours theirs : ℕ) : Type 0 where
   pub size : length p.men ≡ 64
   pub few : theirs < 9
   pub guards : AreGuards q.ending.are_reborn prey p.men q.colour ours q.guards q.count
-  pub blocks : AreBlocks q.ending.are_reborn (may_promote p) p.men (other q.colour) theirs q.blockable
+  pub blocks : AreBlocks q.ending.are_reborn (may_promote p) p.men (other q.colour) theirs
+      q.blockable
   pub usual : IsUsual (may_promote p)
   pub kind : king.kind ≡ King
   pub stands : king_square p.men (other q.colour) ≡ Some king.from
   pub small : king.from < 64
-  pub way : IsChain q.ending.are_reborn (2 ^ 64 - 1) (record { colour = other q.colour; kind = King })
+  pub way : IsChain q.ending.are_reborn (2 ^ 64 - 1)
+      (record { colour = other q.colour; kind = King })
       king.from theirs king.chain

@@ -2,14 +2,14 @@
 use Rattle.std.specs.Prelude.{ℕ, ◌≡◌, ◌≢◌, ◌≤◌, ◌<◌, ◌==◌, Bool, true, false, ◌||◌, ◌&&◌, List, slice_index_or}
 use Rattle.chess_core.specs.declared.man.Colour.TheVariants.{White, Black}
 use Rattle.std.specs.Int.{bit_at}
-use Rattle.chess_core.specs.Position.{same_kind}
+use Rattle.chess_core.specs.Position.{Position, may_promote, same_kind}
 use Rattle.chess_core.specs.Squares.{is_square, rank_of}
 use Rattle.chess_core.specs.Steps.{along}
 use Rattle.chess_core.specs.declared.man.Colour.{Colour}
 use Rattle.chess_attacks.specs.Reaches.{forward}
 use Rattle.chess_rules.specs.Legal.{second_rank}
 use Rattle.chess_core.specs.declared.man.Kind.{Kind}
-use Rattle.chess_core.specs.declared.man.Kind.TheVariants.{King, Nightrider, Pawn}
+use Rattle.chess_core.specs.declared.man.Kind.TheVariants.{Bishop, Grasshopper, King, Knight, Pawn, Queen, Rook}
 use Rattle.chess_core.specs.declared.man.Man.{Man}
 use Rattle.chess_reach.specs.Reach.{Gets, Starts, goes}
 use Rattle.chess_reach.specs.declared.whereabouts.Whereabouts.{Whereabouts}
@@ -32,8 +32,18 @@ by_side Black w b = b
 -- a promotion to this kind isn't followed: neither a knight's leaps nor a queen's lines, which are followed of
 -- promoted pawns, reach all that such a man reaches
 abbrev pub is_unfollowed : Kind → Bool
-is_unfollowed Nightrider = true
-is_unfollowed _ = false
+is_unfollowed King = false
+is_unfollowed Queen = false
+is_unfollowed Rook = false
+is_unfollowed Bishop = false
+is_unfollowed Knight = false
+is_unfollowed Pawn = false
+is_unfollowed Grasshopper = false
+is_unfollowed _ = true
+
+-- pawns may promote to this kind, and such a promotion isn't followed
+abbrev pub may_promote_to_unfollowed : Position → Kind → Bool
+may_promote_to_unfollowed p k = is_unfollowed k && may_promote p k
 
 -- a man that is now of kind k can be of kind j: a pawn as itself or promoted, but not to king nor to a kind
 -- that isn't followed, and another man as itself
@@ -66,8 +76,10 @@ pub record Rests (rb : Bool) (x : Man) (v w : Whereabouts) : Type 0 where
 
 -- within n moves, at most m, the man gets from s only to where the n-th of the chain has it; later ones
 -- have it too
-pub record IsChain (rb : Bool) (prey : ℕ) (x : Man) (s m : ℕ) (chain : List Whereabouts) : Type 0 where
-  pub gets : (allowed : Kind → Bool) (takes : ℕ → Bool) (n : ℕ) (j : Kind) (t : ℕ) → TakesOn takes prey
+pub record IsChain (rb : Bool) (prey : ℕ) (x : Man) (s m : ℕ)
+    (chain : List Whereabouts) : Type 0 where
+  pub gets : (allowed : Kind → Bool) (takes : ℕ → Bool) (n : ℕ) (j : Kind) (t : ℕ)
+      → TakesOn takes prey
       → n ≤ m → IsUsual allowed → Gets rb allowed takes x.colour n x.kind s j t
       → has x.kind j t (slice_index_or chain n nowhere) ≡ true
   pub grows : (n l : ℕ) (j : Kind) (t : ℕ) → n ≤ l → l ≤ m → t < 64

@@ -141,7 +141,7 @@ fn rebirth(colour: Colour, kind: Kind, square: Square) -> Option<Square>
     }
 }
 
-// Returns the man on the square, if there are both.
+// Returns the man on the square, or `None` without a square or a man.
 fn man_on_at(board: &Board, square: Option<Square>) -> Option<Man>
     ensures { result ≡ man_on_at board.now.men square }
 {
@@ -180,7 +180,7 @@ fn rebirth_at(
     }
 }
 
-// Places the man on the square, if there are both.
+// Places the man on the square; without a square or a man it does nothing.
 pub(crate) fn put_at(board: &mut Board, square: Option<Square>, man: Option<Man>)
     requires empty { (r : ℕ) → square ≡ Some r → man_on board.old.men r ≡ None }
     requires mortal { (y : Man) → man ≡ Some y → same_kind y.kind King ≡ false }

@@ -281,8 +281,8 @@ pub record IsMild (v : KingAttack) (g : KingZone) (checks : ℕ) (x : Man) (s a 
       → IsQuiet v g checks x s a t ⊎ LeavesFlight v g x s a b t
 
 -- x gives no check or leaves a flight after each move of the defender outside this risk
-pub record IsHarmless (v : KingAttack) (g : KingZone) (checks : ℕ) (r : Risk) (x : Man) (s : ℕ) : Type
-    0 where
+pub record IsHarmless (v : KingAttack) (g : KingZone) (checks : ℕ) (r : Risk) (x : Man)
+    (s : ℕ) : Type 0 where
   pub mild : (a b : ℕ) → a < 64 → b < 64 → IsOff v.hurdles r a b → IsMild v g checks x s a b
 
 -- x on s, unless it is a hopper, doesn't check now; and wherever it goes, it gives no check or leaves a
@@ -305,7 +305,8 @@ pub record AreWeak (v : KingAttack) (g : KingZone) (r : Risk) : Type 0 where
 pub record AreAdjacent (v : KingAttack) (k w : ℕ) : Type 0 where
   pub next : (f : ℕ) → f < 64 → (bit_at w f == 1) ≡ true → list_any (leaps k f) queen_steps ≡ true
   pub free : (f : ℕ) → f < 64 → (bit_at w f == 1) ≡ true → (bit_at v.closed f == 1) ≡ false
-  pub kings : (f : ℕ) → f < 64 → (bit_at w f == 1) ≡ true → (bit_at v.men.squares.kings f == 1) ≡ false
+  pub kings : (f : ℕ) → f < 64 → (bit_at w f == 1) ≡ true
+      → (bit_at v.men.squares.kings f == 1) ≡ false
 
 -- w holds squares next to k, but none if an attacker is on a closed square or is a hopper
 pub record AreCaptureSquares (v : KingAttack) (k w : ℕ) : Type 0 where

@@ -11,7 +11,8 @@ use Rattle.fen.specs.Fen.{HasFenRights, castling_letters, crossed_text, is_digit
 use Rattle.fen.specs.declared.not_fen.NotFen.{NotFen}
 
 -- the text is that of x and then the rest, and not that of another value that fits
-pub record Finds {X : Type 0} (Fits : X → Type 0) (text_of : X → List ℕ → List ℕ) (text : List ℕ) (x : X) (rest : List ℕ) : Type 0 where
+pub record Finds {X : Type 0} (Fits : X → Type 0) (text_of : X → List ℕ → List ℕ) (text : List ℕ)
+    (x : X) (rest : List ℕ) : Type 0 where
   pub fits : Fits x
   pub is : text ≡ text_of x rest
   pub only : (y : X) (other : List ℕ) → Fits y → text ≡ text_of y other → (y ≡ x) × (other ≡ rest)
@@ -35,7 +36,8 @@ with_mark after text = if after % 8 == 0 then mark after ∷ text else text
 -- the text of this many squares, the last ones in FEN's order, with their marks, and what comes after the men
 unfoldable pub text_from : List (Option Man) → ℕ → List ℕ → List ℕ
 text_from men zero tail = tail
-text_from men (suc n) tail = with_square (man_on men (square_before n)) (with_mark n (text_from men n tail))
+text_from men (suc n) tail =
+    with_square (man_on men (square_before n)) (with_mark n (text_from men n tail))
 
 -- the text with the number of empty squares that were announced and are still to come
 unfoldable pub with_number : ℕ → List ℕ → List ℕ
@@ -67,7 +69,8 @@ abbrev pub FindsNoMan : List ℕ → Type 0
 FindsNoMan text = (man : Man) (rest : List ℕ) → text ≡ man_text man ++ rest → ⊥
 
 -- the square comes first, and then what is left
-pub record FindsSquare (empty : ℕ) (text : List ℕ) (square : Option Man) (announced : ℕ) (rest : List ℕ) : Type 0 where
+pub record FindsSquare (empty : ℕ) (text : List ℕ) (square : Option Man) (announced : ℕ)
+    (rest : List ℕ) : Type 0 where
   pub left : IsLeft announced rest
   pub is : with_number empty text ≡ with_square square (with_number announced rest)
   pub only : (other : Option Man) (tail : List ℕ) → with_number empty text ≡ with_square other tail
@@ -79,10 +82,12 @@ FindsNoSquare empty text = (square : Option Man) (tail : List ℕ) → IsRow 7 t
     → with_number empty text ≡ with_square square tail → ⊥
 
 -- the mark comes first, if the square was the last of a rank, and then what is left
-pub record SkipsMark (after empty : ℕ) (text : List ℕ) (announced : ℕ) (rest : List ℕ) : Type 0 where
+pub record SkipsMark (after empty : ℕ) (text : List ℕ) (announced : ℕ)
+    (rest : List ℕ) : Type 0 where
   pub left : IsLeft announced rest
   pub is : with_number empty text ≡ with_mark after (with_number announced rest)
-  pub only : (tail : List ℕ) → with_number empty text ≡ with_mark after tail → tail ≡ with_number announced rest
+  pub only : (tail : List ℕ) → with_number empty text ≡ with_mark after tail
+      → tail ≡ with_number announced rest
   pub done : after % 8 ≡ 0 → announced ≡ 0
 
 -- the mark should come first, and doesn't
@@ -95,7 +100,8 @@ IsSameBefore count men others = (j : ℕ) → count ≤ j → j < 64
     → man_on men (square_before j) ≡ man_on others (square_before j)
 
 -- all squares but this many are read, and no other man is set
-pub record IsReadTo (text : List ℕ) (count : ℕ) (men : List (Option Man)) (empty : ℕ) (rest : List ℕ) : Type 0 where
+pub record IsReadTo (text : List ℕ) (count : ℕ) (men : List (Option Man)) (empty : ℕ)
+    (rest : List ℕ) : Type 0 where
   pub size : length men ≡ 64
   pub left : IsLeft empty rest
   pub done : count % 8 ≡ 0 → empty ≡ 0
@@ -148,7 +154,8 @@ IsOnBoard crossed = IfSome crossed (λ square. square < 64)
 
 -- the en passant square is read; the error says that the text is none
 abbrev pub IsCrossedAs : List ℕ → Result (Option ℕ) NotFen → Type 0
-IsCrossedAs text result = MatchResult result (λ crossed. IsOnBoard crossed × (text ≡ crossed_text crossed))
+IsCrossedAs text result =
+    MatchResult result (λ crossed. IsOnBoard crossed × (text ≡ crossed_text crossed))
     (λ _. (crossed : Option ℕ) → IsOnBoard crossed → text ≡ crossed_text crossed → ⊥)
 
 -- the text of the fields after the men

@@ -22,12 +22,12 @@ module _ (rule : RuleSet) (problem : Posed) (phase : Phase) (depth : ℕ) where
 module _ (rule : RuleSet) (problem : Posed) (phase : Phase) (depth : ℕ) (free : is_impossible_phase rule problem phase ≡ false) (sound : IsSound problem) where
   -- The parts are the lists of this many moves, each legal in its position; if the phase has no half-move
   -- there is none.
-  pub parts_are : (front : List Move)
-      → Contains (parts rule problem phase depth) front
-      ↔ ((1 ≤ phase_half_moves problem phase) × IsLegalLine rule (phase_start problem phase) front × (length front ≡ part_depth problem phase depth))
-  parts_are front =
-      let are = parts-are rule problem phase depth free (phase_half_moves problem phase) refl front in
-      let may = playable_is_legal problem.stipulation.goal rule (phase_start problem phase) front (start_sound problem sound phase) in
+  pub parts_are : (beginning : List Move)
+      → Contains (parts rule problem phase depth) beginning
+      ↔ ((1 ≤ phase_half_moves problem phase) × IsLegalLine rule (phase_start problem phase) beginning × (length beginning ≡ part_depth problem phase depth))
+  parts_are beginning =
+      let are = parts-are rule problem phase depth free (phase_half_moves problem phase) refl beginning in
+      let may = playable_is_legal problem.stipulation.goal rule (phase_start problem phase) beginning (start_sound problem sound phase) in
       (λ c. let w = are.0 c in (w.0, may.0 w.1, w.2), λ w. are.1 (w.0, may.1 w.1, w.2))
 
   -- The solutions of the parts, one part after another, are the solutions of the phase, in the same order.
@@ -36,14 +36,14 @@ module _ (rule : RuleSet) (problem : Posed) (phase : Phase) (depth : ℕ) (free 
 
   -- Each solution of the phase begins as exactly one of the parts does.
   pub in_one_part : (solution : List (List Move)) → Contains (solutions rule problem phase) solution
-      → count_by (λ front. begins_so front solution) (parts rule problem phase depth) ≡ 1
-  in_one_part solution c = sym (length-filter (λ front. begins_so front solution) (parts rule problem phase depth))
+      → count_by (λ beginning. begins_so beginning solution) (parts rule problem phase depth) ≡ 1
+  in_one_part solution c = sym (length-filter (λ beginning. begins_so beginning solution) (parts rule problem phase depth))
       ∙ once rule problem phase depth free sound solution c
 
   -- If each part is searched up to a limit, the first of all these solutions, up to that limit, are the
   -- first solutions of the phase.
   pub first_of_parts : (n : ℕ)
-      → take n (flat_map (λ front. take n (part_solutions rule problem phase front)) (parts rule problem phase depth))
+      → take n (flat_map (λ beginning. take n (part_solutions rule problem phase beginning)) (parts rule problem phase depth))
       ≡ take n (solutions rule problem phase)
   first_of_parts n = first-of-firsts (part_solutions rule problem phase) n n (omega arith) (parts rule problem phase depth) ∙ ap (take n) parts_joined
 
@@ -53,6 +53,6 @@ module _ (rule : RuleSet) (problem : Posed) (phase : Phase) (depth : ℕ) (free 
       ≡ min problem.max_solutions (sum_by (part_count rule problem phase) (parts rule problem phase depth))
   counted_by_parts =
       let n : ℕ = problem.max_solutions in
-      let firsts = flat_map (λ front. take n (part_solutions rule problem phase front)) (parts rule problem phase depth) in
+      let firsts = flat_map (λ beginning. take n (part_solutions rule problem phase beginning)) (parts rule problem phase depth) in
       ap length (sym (first_of_parts n)) ∙ length-take n firsts
-      ∙ ap (min n) (length-flat_map (λ front. take n (part_solutions rule problem phase front)) (parts rule problem phase depth))
+      ∙ ap (min n) (length-flat_map (λ beginning. take n (part_solutions rule problem phase beginning)) (parts rule problem phase depth))

@@ -24,4 +24,4 @@ is_failure (Some entry) = reports_device_failure entry
 -- the text of a part, if there is one
 abbrev pub text_if : RuleSet → Posed → Phase → Option Path → List ℕ
 text_if rule posed phase None = []
-text_if rule posed phase (Some front) = part_text rule posed phase front
+text_if rule posed phase (Some beginning) = part_text rule posed phase beginning

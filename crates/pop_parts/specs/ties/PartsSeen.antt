@@ -1,6 +1,6 @@
 -- What contracts see of a search of one part and of the parts still to come, and how many positions a
 -- part's walk has (own).
-use Rattle.std.specs.Prelude.{◌≡◌, ℕ, ◌-◌, ◌==◌, Bool, true, false, ◌&&◌, List, [], ◌∷◌, length}
+use Rattle.std.specs.Prelude.{◌≡◌, ℕ, ◌-◌, Bool, true, false, ◌&&◌, List, [], ◌∷◌, length}
 use Rattle.chess_core.specs.Position.{Position}
 use Rattle.chess_rules.specs.Legal.{is_legal, moves as legal_moves}
 use Rattle.chess_rules.specs.Play.{position_after}
@@ -22,7 +22,7 @@ use Rattle.pop_battle.specs.Walks.{walk_count}
 pub record PartSeen : Type 0 where
   pub problem : Posed
   pub phase : Phase
-  pub front : Path
+  pub beginning : Path
   pub left : List BareEvent
   pub board : Position
   pub depth : ℕ

@@ -1,6 +1,6 @@
 -- The text of a move determines the move: two moves with one text castle to one side, or one man goes between the same
 -- squares and is promoted to the same kind.
-use Rattle.std.proofs.Common.{◌≡◌, ℕ, ◌+◌, ◌<◌, Bool, true, false, cond, eqb, nat_lt, List, [], ◌∷◌, ◌++◌, Option, Some, None, refl, sym, ap, ◌∙◌, arith, append_assoc, drop, get_or, ◌⊎◌, inl}
+use Rattle.std.proofs.Common.{◌≡◌, ℕ, ◌+◌, ◌<◌, Bool, true, false, cond, nat_lt, List, [], ◌∷◌, ◌++◌, Option, Some, None, refl, sym, ap, ◌∙◌, arith, append_assoc, drop, get_or, ◌⊎◌, inl}
 use Rattle.std.specs.Prelude.{codes, find, unwrap_or, ◌==◌}
 use Rattle.std.proofs.lemmas.Bool.{and_from, and_parts, cases_Bool, cond-false, cond-true, eqb-true, le-ltb, lt-ltb, or_cases, true≢false}
 use Rattle.chess_core.specs.Squares.{file_of, rank_of}

@@ -58,8 +58,8 @@ status_with Sound false true = Faulty
 status_with so_far false true = so_far
 
 -- A step reads one item and the bytes that it uses, and counts it in the number and the status.
-pub record TakesItem {A : Type 0} (old new : RunState A) (had left : Option (List ℕ)) (entry : Entry)
-    : Type 0 where
+pub record TakesItem {A : Type 0} (old new : RunState A) (had left : Option (List ℕ))
+    (entry : Entry) : Type 0 where
   pub reads : Reads old.at new.at had left (entry ∷ [])
   pub used : UsesEntry old.at new.at had left entry
   pub number : new.number ≡ old.number + 1

@@ -1,5 +1,5 @@
 -- Refutations, keys and tries, for any game.
-use Rattle.pop_tries.proofs.Words.{Battle, Bool, Contains, Passing, cond, is_direct, nat_le, refutation_count, ◌&&◌, Direct, Game, List, Selfmate, [], and_parts, arith, can_move, cases_lt, eqb, every_move, false, false≢true, filter, from_filter, in_filter, inl, inr, is_in_set_play, is_lost, is_self_lost, is_try, keeps_win, length, list_all, nat_tests, not, refl, refutations, suc, sym, true, wins, zero, ℕ, ◌+◌, ◌-◌, ◌<◌, ◌↔◌, ◌∙◌, ◌∷◌, ◌≡◌, ◌≤◌, ◌⊎◌}
+use Rattle.pop_tries.proofs.Words.{Battle, Bool, Contains, Passing, cond, is_direct, nat_le, refutation_count, ◌&&◌, Direct, Game, List, SelfMate, [], and_parts, arith, can_move, cases_lt, eqb, every_move, false, false≢true, filter, from_filter, in_filter, inl, inr, is_in_set_play, is_lost, is_self_lost, is_try, keeps_win, length, list_all, nat_tests, not, refl, refutations, suc, sym, true, wins, zero, ℕ, ◌+◌, ◌-◌, ◌<◌, ◌↔◌, ◌∙◌, ◌∷◌, ◌≡◌, ◌≤◌, ◌⊎◌}
 
 module _ {X : Type 0} (test : X → Bool) where
   parted : (xs : List X) → length (filter test xs) + length (filter (λ x. not (test x)) xs) ≡ length xs
@@ -74,13 +74,13 @@ module _ {P M : Type 0} (battle : Battle) (game : Game P M) (n : ℕ) (q : P) wh
       → list_all (λ d. is_in_set_play battle game n (game.after q d)) (game.moves q) ≡ true
   unfolding is_self_lost
   answered_where_key Direct unmet h = answered_where_lost game (n - 1) q unmet h
-  answered_where_key Selfmate unmet h = grind arith
+  answered_where_key SelfMate unmet h = grind arith
 
   key_where_answered : (battle : Battle) → can_move game q ≡ true → list_all (λ d. is_in_set_play battle game n (game.after q d)) (game.moves q) ≡ true
       → keeps_win battle game n q ≡ true
   unfolding is_self_lost
   key_where_answered Direct some h = lost_where_answered game (n - 1) q some h
-  key_where_answered Selfmate some h = grind arith
+  key_where_answered SelfMate some h = grind arith
 
   -- A key has no refutations, unless it reaches the goal.
   pub key_has_no_refutation : game.goal q ≡ false → keeps_win battle game n q ≡ true → refutations battle game n q ≡ []

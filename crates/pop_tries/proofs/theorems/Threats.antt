@@ -1,5 +1,5 @@
 -- Threats and the defences against them, for any game.
-use Rattle.pop_tries.proofs.Words.{Battle, Bool, Contains, Direct, Game, Passing, Selfmate, and_parts, ap, arith, best_moves, cases_lt, false, false≢true, from_filter, has_threat, in_filter, inl, inr, is_defence, is_in_set_play, keeps_win, least_moves, list_any, none_in_nil, not, refl, refutations, rules, subst, sym, threats, true, wins_in, works, ℕ, ◌-◌, ◌||◌, ◌↔◌, ◌∙◌, ◌≡◌, ◌≤◌}
+use Rattle.pop_tries.proofs.Words.{Battle, Bool, Contains, Direct, Game, Passing, SelfMate, and_parts, ap, arith, best_moves, cases_lt, false, false≢true, from_filter, has_threat, in_filter, inl, inr, is_defence, is_in_set_play, keeps_win, least_moves, list_any, none_in_nil, not, refl, refutations, rules, subst, sym, threats, true, wins_in, works, ℕ, ◌-◌, ◌||◌, ◌↔◌, ◌∙◌, ◌≡◌, ◌≤◌}
 use Rattle.pop_walk.proofs.Nodes.{any_from_element, element_from_any}
 use Rattle.pop_walk.proofs.theorems.Lengths.{least_is_one, no_win_in_none, wins_by_a_move, wins_exactly_from_least, wins_in_more}
 use Rattle.pop_walk.proofs.theorems.Trees.{IsBest, some_best_where_won}
@@ -96,7 +96,7 @@ module _ {P M : Type 0} (battle : Battle) (game : Game P M) (n : ℕ) (passing :
 
   answered_where_won : (battle : Battle) (r : P) → wins_in battle game (n - 1) r ≡ true → is_in_set_play battle game n r ≡ true
   answered_where_won Direct r h = h
-  answered_where_won Selfmate r h = grind arith
+  answered_where_won SelfMate r h = grind arith
 
   -- A threat takes at least one move.
   pub at_least_one : has_threat battle game n passing q ≡ true → 1 ≤ threat_length

@@ -27,7 +27,8 @@ pub record IsContest (contest : Contest) : Type 0 where
   pub some : 1 ≤ contest.stipulation.n
 
 -- a test of the contest may begin at a desk: the frames in use leave room for its half-moves
-pub record IsReady {A : Type 0} {n : ℕ} (contest : Contest) (desk : Desk A n) (most : ℕ) : Type 0 where
+pub record IsReady {A : Type 0} {n : ℕ} (contest : Contest) (desk : Desk A n)
+    (most : ℕ) : Type 0 where
   pub fits : IsContest contest
   pub well_formed : IsWellFormed desk.board
   pub room : array_vec_len desk.frames + half_moves contest.stipulation ≤ most
@@ -72,13 +73,13 @@ wins_within rule contest length p m =
     keeps_win contest.battle (game_in rule contest) (moves_of length) (position_after rule p m)
 
 -- the length of White's threats after a first move that leads to q, a set that holds them, and their places
-pub record HoldsThreats (rule : RuleSet) (contest : Contest) (q : Position) (threat : Threat) : Type 0
-  where
-    pub timed : IsThreatLength rule contest q threat.length
-    pub held : HoldAll rule (set_start q) (wins_within rule contest threat.length (set_start q))
-        (Some threat.moves)
-    pub places : AreAt threat.places (filter (wins_within rule contest threat.length (set_start q))
-        (moves rule (set_start q))) []
+pub record HoldsThreats (rule : RuleSet) (contest : Contest) (q : Position) (threat : Threat)
+    : Type 0 where
+  pub timed : IsThreatLength rule contest q threat.length
+  pub held : HoldAll rule (set_start q) (wins_within rule contest threat.length (set_start q))
+      (Some threat.moves)
+  pub places : AreAt threat.places (filter (wins_within rule contest threat.length (set_start q))
+      (moves rule (set_start q))) []
 
 -- White's threats after a first move that leads to q, if White threatens
 abbrev pub AreThreats : RuleSet → Contest → Position → Option Threat → Type 0

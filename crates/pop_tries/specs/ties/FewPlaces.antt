@@ -15,14 +15,16 @@ pub record IsPlaceOf (place : ℕ) (m : Move) : Type 0 where
 abbrev pub AreAt : FewPlaces → List Move → List Move → Type 0
 AreAt Empty all rest = all ≡ rest
 AreAt (One place) all rest = (m : Move) × IsPlaceOf place m × (all ≡ m ∷ rest)
-AreAt (Two first second) all rest = (m k : Move) × IsPlaceOf first m × IsPlaceOf second k × (all ≡ m ∷ k ∷ rest)
+AreAt (Two first second) all rest = (m k : Move) × IsPlaceOf first m × IsPlaceOf second k
+    × (all ≡ m ∷ k ∷ rest)
 AreAt Many all rest = Unit {0}
 
 -- each place is that of a move
 abbrev pub ArePlaces : FewPlaces → Type 0
 ArePlaces Empty = Unit {0}
 ArePlaces (One place) = (1 ≤ place) × (place ≤ all_triples)
-ArePlaces (Two first second) = ((1 ≤ first) × (first ≤ all_triples)) × ((1 ≤ second) × (second ≤ all_triples))
+ArePlaces (Two first second) = ((1 ≤ first) × (first ≤ all_triples))
+    × ((1 ≤ second) × (second ≤ all_triples))
 ArePlaces Many = Unit {0}
 
 -- the places are known

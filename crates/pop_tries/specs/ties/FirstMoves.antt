@@ -12,7 +12,7 @@ use Rattle.chess_rules.specs.Play.{position_after, undo_of}
 use Rattle.chess_rules.specs.ties.Places.{moves_after}
 use Rattle.pop_walk.specs.Tree.{is_in_set_play, keeps_win}
 use Rattle.pop_stipulation.specs.declared.stipulation.Battle.{Battle}
-use Rattle.pop_stipulation.specs.declared.stipulation.Battle.TheVariants.{Direct, Selfmate}
+use Rattle.pop_stipulation.specs.declared.stipulation.Battle.TheVariants.{Direct, SelfMate}
 use Rattle.pop_stipulation.specs.declared.stipulation.Goal.{Goal}
 use Rattle.pop_stipulation.specs.declared.stipulation.Goal.TheVariants.{Mate, Stalemate}
 use Rattle.pop_tries.specs.Events.{chess_passing}
@@ -46,7 +46,7 @@ firsts_after rule contest group p place =
 abbrev pub is_refuted_by_stalemate : Battle → Goal → RuleSet → Position → Bool
 is_refuted_by_stalemate Direct Mate rule q = is_stalemate rule q
 is_refuted_by_stalemate Direct Stalemate rule q = false
-is_refuted_by_stalemate Selfmate goal rule q = false
+is_refuted_by_stalemate SelfMate goal rule q = false
 
 -- the move m of p is a try with at most `most` refutations
 abbrev pub is_try_after : RuleSet → Contest → ℕ → Position → Move → Bool

@@ -29,7 +29,8 @@ may_be (Some set) m = may_hold set m
 
 -- each legal move of p that meets the test may be in the set
 abbrev pub HoldAll : RuleSet → Position → (Move → Bool) → Option MoveSet → Type 0
-HoldAll rule p test set = (m : Move) → Contains (moves rule p) m → test m ≡ true → may_be set m ≡ true
+HoldAll rule p test set = (m : Move) → Contains (moves rule p) m → test m ≡ true
+    → may_be set m ≡ true
 
 -- each legal move of p that meets the test may be in the set, or comes after the place
 abbrev pub HoldBefore : RuleSet → Position → (Move → Bool) → Option MoveSet → ℕ → Type 0

@@ -314,8 +314,8 @@ pub record IsTask (task : Task) : Type 0 where
   pub few : task.most ≤ MOST_REFUTATIONS
 
 -- what a step of a search for tries, or more of them, begins with: `most` frames leave room for the play
-pub record MayStepWith (rule : RuleSet) (task : Task) (progress : TriesProgress) (items : List Frame)
-    (board : Position) (most : ℕ) : Type 0 where
+pub record MayStepWith (rule : RuleSet) (task : Task) (progress : TriesProgress)
+    (items : List Frame) (board : Position) (most : ℕ) : Type 0 where
   pub is_task : IsTask task
   pub room : half_moves task.problem.stipulation < most
   pub holds : HoldsAt rule task progress items board
@@ -346,7 +346,8 @@ pub record GoesWith (rule : RuleSet) (task : Task) (old : TriesProgress) (was : 
 
 -- a step, or more of them, may begin at a desk
 abbrev pub MayStep : {A : Type 0} {n : ℕ} → RuleSet → Task → TriesProgress → Desk A n → ℕ → Type 0
-MayStep rule task progress desk most = MayStepWith rule task progress desk.frames.items desk.board most
+MayStep rule task progress desk most =
+    MayStepWith rule task progress desk.frames.items desk.board most
 
 -- a step that began at one desk leaves another
 abbrev pub Goes : {A : Type 0} {n : ℕ} → RuleSet → Task → (old : TriesProgress) → Desk A n

@@ -1,7 +1,7 @@
 -- What the frames of a walk mean (own).
 use Rattle.pop_walk.specs.Events.{Path}
 pub use Rattle.pop_stipulation.specs.declared.stipulation.Battle.{Battle}
-use Rattle.pop_stipulation.specs.declared.stipulation.Battle.TheVariants.{Direct, Selfmate}
+use Rattle.pop_stipulation.specs.declared.stipulation.Battle.TheVariants.{Direct, SelfMate}
 pub use Rattle.pop_stipulation.specs.declared.stipulation.Goal.TheVariants.{Mate}
 use Rattle.std.specs.Prelude.{◌≡◌, ℕ, zero, suc, ◌+◌, ◌-◌, ◌*◌, ◌/◌, ◌≤◌, ◌<◌, ◌==◌, Bool, true, false, not, ◌&&◌, ◌||◌, if◌then◌else◌, List, [], ◌∷◌, ◌++◌, map, length, filter, Option, Some, None, IfSome, MatchOption, ◌⊎◌}
 use Rattle.std.specs.List.{flat_map}
@@ -29,7 +29,7 @@ pub use Rattle.pop_battle.specs.ties.Marks.{is_for_mate}
 -- the fewest half-moves with which White, to move, can reach the aim
 abbrev pub fewest_half_moves : Battle → ℕ
 fewest_half_moves Direct = 1
-fewest_half_moves Selfmate = 2
+fewest_half_moves SelfMate = 2
 
 module _ {P M : Type 0} where
   -- the first of the n + 1 lengths a, a + 2, .. a + 2n within which White reaches the aim; the last one
@@ -152,12 +152,12 @@ HaveNoPaths rule mode left p before after over =
     × CannotBeMated rule p before after over)
 
 -- after a move of help play to q, with t half-moves left, lines that reach the goal end on these squares
-pub record AreEndsAfter (rule : RuleSet) (mode : Mode) (t : ℕ) (q : Position) (e : LineEnds) : Type 0
-  where
-    pub help : mode.battle ≡ None
-    pub some : 0 < t
-    pub ends : HoldsEnds mode.goal rule t q e.squares
-    pub same : e.goal ≡ mode.goal
+pub record AreEndsAfter (rule : RuleSet) (mode : Mode) (t : ℕ) (q : Position) (e : LineEnds)
+    : Type 0 where
+  pub help : mode.battle ≡ None
+  pub some : 0 < t
+  pub ends : HoldsEnds mode.goal rule t q e.squares
+  pub same : e.goal ≡ mode.goal
 
 -- after a move the mover's king is on none of these squares
 pub record IsKingOff (rule : RuleSet) (p : Position) (m : Move) (w : ℕ) : Type 0 where

@@ -28,6 +28,7 @@ Answers (ListOf depth) had left failed before now cut ending =
     (ending_of_list (status (input_met failed had left))) before now cut ending
 Answers (Parts named) had left failed before now cut ending =
     WritesText (text_of (request_of named) (input_met failed had left))
-    (ending_of_parts (outcome_of (request_of named) (input_met failed had left))) before now cut ending
+    (ending_of_parts (outcome_of (request_of named) (input_met failed had left)))
+    before now cut ending
 Answers Faults had left failed before now cut ending =
     AnswersFaults had left failed before now cut ending

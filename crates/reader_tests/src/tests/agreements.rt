@@ -1,5 +1,5 @@
 //! Inputs on which both readers must agree.
-use crate::compared::{agree, mark};
+use crate::compared::{ITEM_KINDS, agree, mark};
 use crate::long::{PERIOD, long_text};
 use crate::made::text;
 use crate::plain::items;
@@ -20,7 +20,7 @@ fn every_beginning_of_three_problems(rt: HostRuntime) {
 
 #[test]
 fn made_texts(rt: HostRuntime) {
-    let mut seen = [false; 22];
+    let mut seen = [false; ITEM_KINDS];
     for number in 0..600u64 {
         let made = text(number);
         mark(made.as_slice(), false, &mut seen);
@@ -29,7 +29,7 @@ fn made_texts(rt: HostRuntime) {
         assert!(rt; agree(made.as_slice(), 4096));
     }
     // Every kind of item occurs, except fault 20, the limit of 2^30 bytes.
-    for number in 0..22usize {
+    for number in 0..ITEM_KINDS {
         assert_eq!(rt; seen[number], number != 20);
     }
 }

@@ -3,8 +3,8 @@ use Rattle.chess_flights.proofs.Hurdles.{rest_here}
 use Rattle.chess_mates.proofs.Parrying.{interposed, nobody_between}
 use Rattle.chess_mates.proofs.parries.parries_between.Goals as goal
 
-pub returns-then-shuts : goal.returns-then-shuts
-returns-then-shuts c = λ men seen unpinned.
+pub returns-then-closes_line : goal.returns-then-closes_line
+returns-then-closes_line c = λ men seen unpinned.
     let reaching = rw (c.other-enemy.ensures, c.turn.ensures) at c.attackers_in-reaching.ensures men (search (rules, seen)) in
     let standing = rw (c.other-enemy.ensures, c.turn.ensures) at c.squares.ensures.word in
     let pawns = ap (λ (n : ℕ). bit_and n c.args.occupancy.standing) standing ∙ seen.standing Pawn in

@@ -27,7 +27,7 @@ loop-from-preserved c =
     let old = c.loop-from.invariant in
     let g : Guard = record { kind = c.in-Some-man_at.man.kind; from = c.in-Some.from; chain = c.chain_of.result } in
     let popped = is_taken _ _ _ _ c.pop_first.ensures.taken c.in-Some.is in
-    let room : c.loop-from.count < length c.loop-from.guards = omega (arith, old.few, old.size, c.if-count-eq-MEN.false) in
+    let room : c.loop-from.count < length c.loop-from.guards = omega (arith, old.few, old.size, c.if-count-eq-MOST_GUARDS.false) in
     let mine = sym (side_has c.args.board.now.men c.args.colour _ c.in-Some.from refl popped.small) ∙ old.inside c.in-Some.from popped.here in
     let is = man_of_side c.args.board.now.men c.args.colour c.in-Some.from _ c.in-Some-man_at.man c.man_at.ensures c.in-Some-man_at.is mine in
     record {

@@ -9,13 +9,13 @@ highest-last-requires c =
 
 pub returns-then-taken-eq0 : goal.returns-then-taken-eq0
 returns-then-taken-eq0 c = λ _ t small on.
-    let free = off_second c.args.targets c.taking_squares.result t (search (rules, off_zero, eqb-true, c.if-taken-eq0.true)) on in
-    (_, c.taking_squares.ensures _ t (found_on _ 0 _ (sym c.next_bit.ensures.value ∙ c.in-Some.is)).1 small free)
+    let free = off_second c.args.targets c.barring_squares.result t (search (rules, off_zero, eqb-true, c.if-taken-eq0.true)) on in
+    (_, c.barring_squares.ensures _ t (found_on _ 0 _ (sym c.next_bit.ensures.value ∙ c.in-Some.is)).1 small free)
 
 pub returns : goal.returns
 returns c = λ yes t small on.
-    let first = c.taking_squares in
-    let last = c.taking_squares-2 in
+    let first = c.barring_squares in
+    let last = c.barring_squares-2 in
     let taken = bit_and c.args.targets first.result in
     elim (cases_Bool (bit_at taken t == 1)) [
       | inl both ↦ elim (cases_Bool (bit_at (bit_and taken last.result) t == 1)) [

@@ -1,4 +1,4 @@
-use Rattle.pop_battle.proofs.Words.{Selfmate, arith, joined_value, rules, value}
+use Rattle.pop_battle.proofs.Words.{SelfMate, arith, joined_value, rules, value}
 use Rattle.pop_battle.proofs.Boards.{after_start}
 use Rattle.pop_battle.proofs.LastMoves.{begins_plain, none_moves, walk_among-two, stuck}
 use Rattle.pop_battle.proofs.last_move.value_of_last_move.Goals as goal
@@ -13,5 +13,5 @@ returns-then-counted-eq0 g c = search (rules, stuck, none_moves, after_start, c.
 pub returns : goal.returns
 unfolding joined_value
 returns g c =
-    let b = begins_plain Selfmate g.R.Rules.rule c.args.board.now c.of-cursor.result.place c.args.search_state.now.opened (search rules) (omega arith) in
+    let b = begins_plain SelfMate g.R.Rules.rule c.args.board.now c.of-cursor.result.place c.args.search_state.now.opened (search rules) (omega arith) in
     search (rules, b, walk_among-two)

@@ -1,4 +1,4 @@
-use Rattle.std.proofs.Common.{ap, refl, sym, ◌∙◌}
+use Rattle.std.proofs.Common.{refl, sym, ◌∙◌}
 use Rattle.std.proofs.lemmas.Result.{err_from_is_err_and}
 use Rattle.pop_print.specs.Tries.{try_event_text}
 use Rattle.pop_run.proofs.Findings.{first_shown, printing_breaks_off, printing_goes_on, printing_starts}

@@ -28,5 +28,5 @@ returns-then-not-set_up-clause-counts g c = search rules
 pub returns-clause-counts : goal.returns-clause-counts
 unfolding HoldsAtProgress
 returns-clause-counts g c = rw (c.of-walk.ensures, c.push-2.ensures.items, walking.reverse-push, c.requires.standing.0)
-    (opened.counts-begun g.R.Rules.rule c.args.problem.now c.requires.sound c.args.phase _ (ap (λ (w : Walk). w.half_moves) c.of-walk.ensures) c.start.ensures
+    (opened.counts-begun g.R.Rules.rule c.args.problem.now c.requires.sound c.args.phase _ (ap (λ (w : Walk). w.half_moves) c.of-walk.ensures) (search rules)
     (search rules) _ _ _ _ c.opened_with-search_state.ensures)

@@ -3,5 +3,5 @@ use Rattle.chess_threats.proofs.quiet_steps.QuietStepsSquareFilter.kept_squares.
 
 pub returns-clause-kept : goal.returns-clause-kept
 returns-clause-kept g c = record {
-  removed = λ m lawful from on off. c.loud_squares.ensures m lawful from (off_second c.args.squares _ m.to off on);
+  removed = λ m lawful from on off. c.squares_without_quiet_step.ensures m lawful from (off_second c.args.squares _ m.to off on);
 }

@@ -15,7 +15,7 @@ invariant_of-result g c =
       c.requires.sound,
       c.requires.room,
       c.begin_after-progress.ensures.standing,
-      rw c.front_of-front.ensures (part.opens-begun g.R.Rules.rule
+      rw c.beginning_of-beginning.ensures (part.opens-begun g.R.Rules.rule
           c.args.problem.now c.requires.sound c.args.phase _ _ _ s.1 s.2 c.requires.«open» _ c.requires.legal c.requires.battle _ _ _
           c.begin_after-progress.ensures.counts),
     )
@@ -23,5 +23,5 @@ invariant_of-result g c =
 pub returns-clause-left : goal.returns-clause-left
 returns-clause-left g c =
     let s = c.requires.seeking in
-    rw c.front_of-front.ensures (c.begin_after-progress.ensures.left ∙ part.events-begun g.R.Rules.rule c.args.problem.now c.requires.sound c.args.phase _ _ _
+    rw c.beginning_of-beginning.ensures (c.begin_after-progress.ensures.left ∙ part.events-begun g.R.Rules.rule c.args.problem.now c.requires.sound c.args.phase _ _ _
     s.1 s.2 c.requires.«open» _ c.requires.legal c.requires.battle)

@@ -1,5 +1,5 @@
 use Rattle.pop_battle.proofs.Words.{IsPlaceIn, belongs, filter, length, moves_after, ◌≡◌}
-use Rattle.pop_battle.proofs.move_stages.next_of_move_stage.Given as goal
+use Rattle.pop_battle.proofs.move_stages.next_in_stage.Given as goal
 
 abbrev pub invariant-loop-by : goal.invariant-loop-by
 invariant-loop-by g l = (l.board ≡ l.fn.board) × IsPlaceIn g.R.Rules.rule l.fn.board l.cursor

@@ -1,6 +1,6 @@
 use Rattle.chess_threats.proofs.Chess.{off_left, off_right, rules}
 use Rattle.chess_flights.proofs.QuietFilter.{is_decided, small_arrival}
-use Rattle.chess_threats.proofs.quiet_steps.QuietSteps.loud_squares.Goals as goal
+use Rattle.chess_threats.proofs.quiet_steps.QuietSteps.squares_without_quiet_step.Goals as goal
 
 pub returns : goal.returns
 returns g c = λ m lawful from off.

@@ -1,5 +1,5 @@
 use Rattle.chess_mates.proofs.Chess.{arith, bit_at, find_first, not-true, rules, word_has, ◌==◌}
-use Rattle.chess_mates.proofs.parries.shuts.Goals as goal
+use Rattle.chess_mates.proofs.parries.closes_line.Goals as goal
 
 pub returns : goal.returns
 returns c = λ shut.

@@ -1,9 +1,0 @@
-use Rattle.pop_parts.proofs.Words.{rules}
-use Rattle.pop_parts.proofs.PartBegins as part
-use Rattle.pop_parts.proofs.part_search.front_of.Goals as goal
-
-pub loop-k-init : goal.loop-k-init
-loop-k-init g c = search (rules, part.front-none)
-
-pub loop-k-preserved : goal.loop-k-preserved
-loop-k-preserved g c = search (rules, part.front-more)
