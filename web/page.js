@@ -96,6 +96,8 @@ function listen() {
   addEventListener('beforeprint', fillPrint);
   addEventListener('hashchange', openLink);
   addEventListener('pagehide', storeVisit);
+  // (another tab has stored something)
+  addEventListener('storage', showKept);
   addEventListener('beforeunload', askToStay);
   document.addEventListener('visibilitychange', () => document.visibilityState === 'hidden' && storeVisit());
   listenToFiles();
