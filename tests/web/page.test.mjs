@@ -899,6 +899,18 @@ test('keeping: a text in work of another tab is kept before it is replaced', () 
   forgetAll();
 });
 
+test('keeping: a text in work of a copy of this tab is kept before it is replaced', () => {
+  begin(TEXT);
+  forgetAll();
+  storeText(TEXT);
+  // (the copy has this tab's name)
+  kept.set('pops', TWO_MOVES);
+  send('storage', { key: 'pops' });
+  storeText(TEXT);
+  assert.deepEqual([keptTexts(), kept.get('pops')], [[TWO_MOVES], TEXT]);
+  forgetAll();
+});
+
 const TWO = TWO_MOVES.replace('End', 'Next') + TEXT.slice(TEXT.indexOf('Pieces'));
 const TWO_REPORTS = 'problem 1\n#2\nplay\n1.Qb1-b6!\nsolutions: 1\n\n' + REPORT.replace('problem 1', 'problem 2');
 
