@@ -176,8 +176,8 @@ function refutationsIn(text) {
 }
 
 /**
- * Mends the faults of a problem, a step for each, as many as can be; null if the first one can't. `asksForTries` says whether a word that was left out asks for tries or threats, `refutations` is
- * the most of a try.
+ * Mends the faults of a problem, a step for each, as many as can be; null if the first one can't. `asksForTries` says whether a word that
+ * was left out asks for tries or threats, `refutations` is the most of a try.
  * @param {string} text
  * @param {number} number
  * @returns {Generator<void, Corrected & CorrectedLine | null>}

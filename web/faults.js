@@ -22,7 +22,10 @@ function drawnLine({ line, pieces }) {
  * Returns a line without marks, as of a fault of which no word is known.
  * @param {CorrectedLine} line
  */
-const bareLine = ({ line, said }) => ({ line, pieces: [{ text: shown(said.slice(0, LONGEST_QUOTED_LINE).replace(/[\t\v\f\r]/g, ' ')), isMarked: false }] });
+function bareLine({ line, said }) {
+  const text = shown(said.slice(0, LONGEST_QUOTED_LINE).replace(/[\t\v\f\r]/g, ' '));
+  return { line, pieces: [{ text, isMarked: false }] };
+}
 
 /**
  * Names the page's own switches and fields in advice that names programs.
