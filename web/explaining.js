@@ -176,12 +176,11 @@ function refutationsIn(text) {
 }
 
 /**
- * Mends the faults of a problem, a step for each, as many as can be; null if the first one can't. `line` is the first line that changes,
- * or the number of lines that are left; `asksForTries` says whether a word that was left out asks for tries or threats, `refutations` is
- * the most of a try.
+ * Mends the faults of a problem, a step for each, as many as can be; null if the first one can't. `asksForTries` says whether a word that
+ * was left out asks for tries or threats, `refutations` is the most of a try.
  * @param {string} text
  * @param {number} number
- * @returns {Generator<void, Corrected & { line: number } | null>}
+ * @returns {Generator<void, Corrected & CorrectedLine | null>}
  */
 export function* mendProblem(text, number) {
   const { from, to, alone, place, start } = aloneOf(text, number);
@@ -202,6 +201,22 @@ export function* mendProblem(text, number) {
   if (made === alone) return null;
   let same = from - start;
   while (same < made.length && made[same] === alone[same]) same++;
-  const whole = text.slice(0, from) + made.slice(from - start) + text.slice(to);
-  return { text: whole, asksForTries, refutations: asksForTries ? refutationsIn(alone) : 0, line: lineOf(whole, same + start) };
+  const changed = changedFrom(text, { from, to }, made.slice(from - start), same - from + start);
+  return Object.assign(changed, { asksForTries, refutations: asksForTries ? refutationsIn(alone) : 0 });
+}
+
+/**
+ * Returns a text in which one part changes from a place on, its first line that changes, or the number of lines that are left, and how this
+ * line begins. The text is made when it is read: many long ones need too much memory.
+ * @param {string} text
+ * @param {Span} part
+ * @param {string} own what the part becomes
+ * @param {number} same the place in it
+ */
+function changedFrom(text, { from, to }, own, same) {
+  const first = lineOf(text, from);
+  const line = first + own.slice(0, same).split('\n').length - 1;
+  const start = lineAt(text, first).from;
+  const near = text.slice(start, Math.min(from, start + MOST_MENDED)) + own + text.slice(to, to + MOST_MENDED);
+  return { get text() { return text.slice(0, from) + own + text.slice(to); }, line, said: near.split('\n')[line - first] };
 }

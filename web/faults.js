@@ -19,14 +19,12 @@ function drawnLine({ line, pieces }) {
 }
 
 /**
- * Returns the line of a fault without marks, if no word of it is known.
- * @param {string} text
- * @param {number} line
+ * Returns a line without marks, as of a fault of which no word is known.
+ * @param {CorrectedLine} line
  */
-function bareLine(text, line) {
-  const { from, to } = lineAt(text, line);
-  const said = shown(text.slice(from, Math.min(to, from + LONGEST_QUOTED_LINE)).replace(/[\t\v\f\r]/g, ' '));
-  return { line, pieces: [{ text: said, isMarked: false }] };
+function bareLine({ line, said }) {
+  const text = shown(said.slice(0, LONGEST_QUOTED_LINE).replace(/[\t\v\f\r]/g, ' '));
+  return { line, pieces: [{ text, isMarked: false }] };
 }
 
 /**
@@ -39,13 +37,13 @@ export const ownAdvice = advice => advice
 
 /**
  * Draws the button that corrects a problem, with the first line that it changes.
- * @param {Corrected & { line: number }} made
+ * @param {Corrected & CorrectedLine} made
  * @param {(made: Corrected) => void} take receives the corrected text
  */
 function mendingBox(made, take) {
   const box = document.createElement('div');
   const button = makeButton(say('correct'), () => take(made));
-  const line = drawnLine(bareLine(made.text, made.line));
+  const line = drawnLine(bareLine(made));
   line.className = 'corrected';
   box.append(line, button);
   return box;
@@ -72,7 +70,8 @@ export function faultBox(text, item, general, { goToLine, take }, work) {
   /** @returns {WorkSteps} */
   function* explaining() {
     const explanation = yield* explainFault(text, item);
-    const marked = explanation?.marks.length ? markedLines(text, explanation.marks) : [bareLine(text, fault.line)];
+    const { from, to } = lineAt(text, fault.line);
+    const marked = explanation?.marks.length ? markedLines(text, explanation.marks) : [bareLine({ line: fault.line, said: text.slice(from, to) })];
     button.before(...marked.map(drawnLine), madeWith('p', ownAdvice(explanation?.text ?? general)));
     if (explanation) return mending();
   }

@@ -13,7 +13,7 @@ import {
 import { placeMarks, whenCorrected } from './page/faults.js';
 import { buildFields, showFields } from './page/fields.js';
 import { listenToFiles } from './page/files.js';
-import { whenKept } from './page/keeping.js';
+import { leaveNameToCopy, whenKept } from './page/keeping.js';
 import { forgetAll, showKept } from './page/kept.js';
 import { OUTS } from './page/outs.js';
 import { showAge, showMoreReport } from './page/reporting.js';
@@ -96,6 +96,8 @@ function listen() {
   addEventListener('beforeprint', fillPrint);
   addEventListener('hashchange', openLink);
   addEventListener('pagehide', storeVisit);
+  // (another tab has stored something)
+  addEventListener('storage', ({ key }) => (key === 'pops' ? leaveNameToCopy() : showKept()));
   addEventListener('beforeunload', askToStay);
   document.addEventListener('visibilitychange', () => document.visibilityState === 'hidden' && storeVisit());
   listenToFiles();
@@ -109,6 +111,7 @@ function buildLanguages() {
   list.onchange = () => {
     if (keep('pops.language', list.value)) location.reload();
     else note(say('keptNot'));
+    list.value = language;
   };
 }
 

@@ -103,8 +103,9 @@ export class Solving {
       this.end({ status: tested.status });
       return;
     }
+    if (tested.status === CUT_STATUS) throw new CutWrong();
     const [allItems, allTexts] = [headsOf(tested.text), itemTexts(this.text)];
-    if (tested.status === CUT_STATUS || allItems.length !== allTexts.length) throw new CutWrong();
+    if (allItems.length !== allTexts.length) throw new CutWrong();
     const [items, texts] = [this.chosen(allItems), this.chosen(allTexts)];
     this.status = this.only ? Number(items.some(it => !it.isSound)) : tested.status;
     this.report = new ReportText(items);

@@ -141,6 +141,8 @@ interface Solved { status: number | null; report: string | Uint8Array; stopped: 
 interface Explanation { text: string; marks: Span[] }
 /** A text in which faults were corrected, whether a word that was left out asks for tries, and the most refutations of a try; 0 if no word says. */
 interface Corrected { text: string; asksForTries: boolean; refutations: number }
+/** A line of a corrected text: its number, and how it begins. */
+interface CorrectedLine { line: number; said: string }
 /** Work in steps, which may return further work. */
 interface WorkSteps extends Generator<void, WorkSteps | void> {}
 /** The words of a problem, and the one that closes it. */

@@ -283,23 +283,34 @@ test('mending: options of Popeye that change nothing here, with their numbers an
     ['Option Variation StartMoveNumber 3 Defence 4 Threat Intelligent\n', 'Option Variation\n', true, 4],
     ['Option Drohung\n', '', true, 0], ['Option Verteidigung 3 Variation Try\n', 'Option Variation\n', true, 3],
   ]) {
-    const { text, asksForTries: asks, refutations, line } = mendedProblem(withOptions(given), 1);
-    assert.deepEqual([text, asks, refutations, line], [withOptions(wanted), asksForTries, most, 4]);
+    const { text, asksForTries: asks, refutations, line, said } = mendedProblem(withOptions(given), 1);
+    assert.deepEqual([text, asks, refutations, line, said], [withOptions(wanted), asksForTries, most, 4, withOptions(wanted).split('\n')[3]]);
   }
 });
 
 test('mending: a byte order mark, letters of another language, a mistyped word; each in its own problem', () => {
   const good = withOptions('Option Variation\n');
-  assert.deepEqual(mendedProblem(`\ufeff${good}`, 1), { text: good, asksForTries: false, refutations: 0, line: 1 });
+  assert.deepEqual(mendedProblem(`\ufeff${good}`, 1), { text: good, asksForTries: false, refutations: 0, line: 1, said: 'BeginProblem' });
   const withoutPawn = good.replace(' Pa6', '');
   assert.equal(mendedProblem(withoutPawn.replace('Qh8 Rc7', 'Rc7 Th8'), 1), null);
   assert.equal(mendedProblem(withoutPawn.replace('Qh8 Rc7', 'Th8c7'), 1).text, withoutPawn.replace('Qh8 Rc7', 'Rh8c7'));
   assert.equal(mendedProblem(good.replace('Stipulation', 'Stipulatoin'), 1).text, good);
   const two = text => good.replace('End', 'Next') + text.slice(text.indexOf('Pieces'));
   const made = mendedProblem(two(withOptions('Option Try Variation\n')), 2);
-  assert.deepEqual([made.text, made.line], [two(good), 8]);
+  assert.deepEqual([made.text, made.line, made.said], [two(good), 8, 'Option Variation']);
+  const [before, after] = [withOptions('Option Try Variation\n'), good].map(it => two(it).replaceAll('\n', ' '));
+  const inOneLine = mendedProblem(before, 2);
+  assert.deepEqual([inOneLine.text, inOneLine.line, inOneLine.said], [after, 1, after]);
   assert.equal(mendedProblem(two(good), 1), null);
   assert.equal(mendedProblem(good.replace('Black Ke1', 'Black'), 1), null);
+});
+
+test('mending: of a long text with many faults none is made before it is read', () => {
+  const text = `${withOptions('Option Try\n').replace('End', 'Next')}Remark ${'x'.repeat(1 << 22)}\nEndProblem\n`;
+  const before = process.memoryUsage().heapUsed;
+  const made = Array.from({ length: 100 }, () => mendedProblem(text, 1));
+  assert.ok(process.memoryUsage().heapUsed - before < 1 << 28);
+  assert.equal(made[99].text === text.replace('Option Try\n', ''), true);
 });
 
 test('mending: advice names the page\'s own switch and field', () => {

@@ -369,9 +369,9 @@ test('a text that is too long for the page is refused', () => {
   }
 });
 
-test('a text that is too long for the page is refused in fields and where it is dropped into the text', () => {
+test('a text that is too long is refused in fields and where it is dropped into the text; a text dropped into a field is left to the browser', () => {
   const long = 'x'.repeat((1 << 23) + 1 - TEXT.length);
-  const field = { closest: () => element('fen') };
+  const field = { closest: () => element('field-Title') };
   const types = ['text/plain'];
   /** Returns how many of these texts the browser is kept from putting in. */
   const prevented = (name, target, ...texts) => texts.filter(text => {
@@ -379,15 +379,19 @@ test('a text that is too long for the page is refused in fields and where it is 
     const given = { types, files: [], getData: () => text };
     begin(TEXT);
     send(name, { target, clipboardData: given, dataTransfer: given, preventDefault: () => { isPrevented = true; } });
+    assert.equal(textNow().includes(TEXT), true);
     return isPrevented;
   }).length;
-  for (const [name, target] of [['paste', field], ['drop', element('text')]]) {
+  const cases = [['paste', field, 'x'.repeat(LONGEST_SHOWN + 1), /longer than 5,000 letters/], ['drop', field, long, /longer than 5,000 letters/],
+    ['drop', element('text'), long, /would be longer than 8 MiB/]];
+  for (const [name, target, text, said] of cases) {
     views.note('');
-    assert.equal(prevented(name, target, long), 1);
+    assert.equal(prevented(name, target, text), 1);
     assert.equal(textNow(), TEXT);
-    assert.match(element('note').textContent, /would be longer than 8 MiB/);
+    assert.match(element('note').textContent, said);
     assert.equal(prevented(name, target, '', 'x'), 0);
   }
+  assert.equal(prevented('paste', field, 'x'.repeat(LONGEST_SHOWN)), 0);
   const lines = 'x\n'.repeat(20000);
   assert.equal(prevented('drop', element('text'), lines), 1);
   assert.equal(textNow().length, TEXT.length + lines.length);
@@ -624,6 +628,18 @@ test('kept: texts that were solved', () => {
   assert.equal(textNow(), TEXT);
   forgetAll();
   assert.equal(kept.has('pops.kept'), false);
+});
+
+test('kept: one that is forgotten takes away nothing that another tab has kept meanwhile', () => {
+  forgetAll();
+  keepProblem(TEXT);
+  const [line] = element('kept-list').children;
+  kept.set('pops.kept', JSON.stringify([{ text: TWO_MOVES, time: 1 }, ...JSON.parse(kept.get('pops.kept'))]));
+  send('storage', {});
+  assert.equal(element('kept-list').children.length, 2);
+  line.children[1].onclick();
+  assert.deepEqual(JSON.parse(kept.get('pops.kept')).map(it => it.text), [TWO_MOVES]);
+  forgetAll();
 });
 
 test('outs and printing: nothing without a report, the sheet with one', () => {
@@ -905,6 +921,18 @@ test('keeping: a text in work of another tab is kept before it is replaced', () 
   assert.deepEqual([keptTexts(), kept.get('pops')], [['one more'], TEXT]);
   storeText(TWO_MOVES);
   assert.deepEqual(keptTexts(), ['one more']);
+  forgetAll();
+});
+
+test('keeping: a text in work of a copy of this tab is kept before it is replaced', () => {
+  begin(TEXT);
+  forgetAll();
+  storeText(TEXT);
+  // (the copy has this tab's name)
+  kept.set('pops', TWO_MOVES);
+  send('storage', { key: 'pops' });
+  storeText(TEXT);
+  assert.deepEqual([keptTexts(), kept.get('pops')], [[TWO_MOVES], TEXT]);
   forgetAll();
 });
 
@@ -1411,6 +1439,23 @@ test('after a key in a long text the problem at the cursor is looked for in slic
   element('text').onkeyup();
   assert.equal(blocksOf.knows(long), false);
   while (state.number !== 2) await new Promise(end => setTimeout(end, 1));
+  begin(TEXT);
+});
+
+test('a long text that was changed isn\'t read at once to say of what the report is, nor to solve it again', () => {
+  const long = `${TEXT}${'a '.repeat(1 << 17)}`;
+  begin(long, REPORT);
+  element('live').checked = true;
+  for (const [typed, isCurrent] of [[`${long}b`, true], [long.replace('Ra1', 'Ra2'), true]]) {
+    element('text').value = typed;
+    element('text').oninput();
+    showAge();
+    liveChanged();
+    assert.deepEqual([state.isCurrent(), state.isSolved(), blocksOf.knows(typed)], [isCurrent, false, false]);
+  }
+  blocksOf(textNow());
+  assert.equal(state.isCurrent(), false);
+  element('live').checked = false;
   begin(TEXT);
 });
 

@@ -6,6 +6,7 @@ import { solve, solveWith } from '../../web/npm/pops.js';
 import { Crew } from '../../web/crew.js';
 import { solveByWorkers } from '../../web/solve.js';
 import { Solving } from '../../web/solving.js';
+import { problemsOf } from '../../web/text.js';
 
 const TEXT = 'BeginProblem\nTitle é\nPieces White Kg6 Ra1 Black Kg8\nStipulation #1\nEndProblem\n';
 const HEAD = 'problem 1\ntitle: é\n#1\n';
@@ -140,4 +141,16 @@ test('solving: one problem of several keeps its number', async () => {
   const whole = new Solving(THREE, { only: 3 }, new Crew(1, () => new TitleWorker(), UTF8), () => {});
   whole.begin = () => whole.solveWhole();
   assert.deepEqual([await whole.solve(), whole.shown], [{ status: 1 }, third]);
+});
+
+test('solving: a text whose heads alone are more than the room of a report isn\'t divided into its problems', async () => {
+  class Cut extends MadeWorker {
+    answer({ call, check }) {
+      return { ...super.answer({ call, check }), status: 3 };
+    }
+  }
+  const text = TEXT.replace('Kg6', 'Kh6');
+  let report = '';
+  const ended = await new Solving(text, {}, new Crew(1, () => new Cut(), UTF8), part => { report += part; }).solve();
+  assert.deepEqual([ended, report, problemsOf.knows(text)], [{ status: 3 }, REPORT, false]);
 });

@@ -1,12 +1,12 @@
 // @ts-check
 // Texts from elsewhere: files that are opened or dropped, and pasted texts.
-import { element } from '../elements.js';
+import { element, LONGEST_SHOWN } from '../elements.js';
 import { imported, isOfAnother } from '../importing.js';
 import { readFen } from '../position.js';
 import { LONG_TEXT } from '../slices.js';
 import { MOST_FILE_BYTES, textOfBytes } from '../store.js';
 import { blocksOf, hasProblem, joinedTexts, NEW_PROBLEM, withFen } from '../text.js';
-import { say } from '../words.js';
+import { language, say } from '../words.js';
 import { isLongWith, selectionNow } from './area.js';
 import { doChore, SHORT_WORK } from './beside.js';
 import { insertLong, insertText, takeFen, takeProblems, takeText } from './editing.js';
@@ -120,11 +120,25 @@ function isTooLong(length) {
 /** @param {ClipboardEvent} event */
 function pasted(event) {
   const text = (event.clipboardData?.getData('text/plain') ?? '').replace(/^\ufeff/, '');
-  const isField = /** @type {Element} */ (event.target).closest?.('input, select');
   const isText = event.target === element('text');
   if (!text) return;
-  if (isTooLong((isText ? lengthBesideSelection() : isField ? textNow().length : 0) + text.length)) event.preventDefault();
-  else if (!isField) takePasted(event, text, isText);
+  if (isInField(event)) putIntoField(event, text);
+  else if (isTooLong((isText ? lengthBesideSelection() : 0) + text.length)) event.preventDefault();
+  else takePasted(event, text, isText);
+}
+
+/** @param {Event} event */
+const isInField = ({ target }) => Boolean(/** @type {Element} */ (target).closest?.('input, select'));
+
+/**
+ * Leaves a text to the browser, which puts it into a field of one line; refuses one that is too long.
+ * @param {Event} event
+ * @param {string} text
+ */
+function putIntoField(event, text) {
+  const isLong = text.length > LONGEST_SHOWN;
+  if (isLong) note(say('fieldLong', { most: LONGEST_SHOWN.toLocaleString(language) }));
+  if (isLong || isTooLong(textNow().length + text.length)) event.preventDefault();
 }
 
 /**
@@ -165,7 +179,7 @@ function dropped(event) {
   const { dataTransfer } = event;
   const text = dataTransfer?.getData('text/plain') ?? '';
   if (!isDroppable(event)) {
-    dropIntoText(event, text);
+    putDropped(event, text);
     return;
   }
   event.preventDefault();
@@ -174,23 +188,27 @@ function dropped(event) {
 }
 
 /**
- * Puts a dropped text into the text box's own, where this would take the browser long; a text that is too long is refused.
+ * Puts a dropped text into a field, or into the text box's own, where this would take the browser long; a text that is too long is refused.
  * @param {DragEvent} event
  * @param {string} text
  */
-function dropIntoText(event, text) {
-  if (!text || !isLongWith(text)) return;
-  event.preventDefault();
-  if (!isTooLong(lengthBesideSelection() + text.length)) insertLong(text);
+function putDropped(event, text) {
+  if (isInField(event)) putIntoField(event, text);
+  else if (text && isLongWith(text)) {
+    event.preventDefault();
+    if (!isTooLong(lengthBesideSelection() + text.length)) insertLong(text);
+  }
 }
 
 /**
- * Returns whether the page takes what is dropped: files, and a text but into the text box's own.
+ * Returns whether the page takes what is dropped: files, and a text but into the text box's own or a field other than FEN.
  * @param {DragEvent} event
  */
-function isDroppable({ dataTransfer, target }) {
+function isDroppable(event) {
+  const { dataTransfer, target } = event;
   const types = [...dataTransfer?.types ?? []];
-  return types.includes('Files') || (types.includes('text/plain') && !(target === element('text') && isAmongText()));
+  const isPut = target === element('text') ? isAmongText() : isInField(event) && target !== element('fen');
+  return types.includes('Files') || (types.includes('text/plain') && !isPut);
 }
 
 export function listenToFiles() {

@@ -72,6 +72,11 @@ export function tabName() {
   return made;
 }
 
+/** Takes another name for this tab if a copy of it, which has the same one, has stored its text. */
+export function leaveNameToCopy() {
+  if (kept('pops.tab') === tabName()) keepInTab('pops.tab', null);
+}
+
 /**
  * Stores the text in work. If the stored one is another tab's, it becomes a kept problem, or stays if there is no room for that.
  * @param {string} text

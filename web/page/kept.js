@@ -10,11 +10,11 @@ export function showKept() {
   const list = keptList();
   const where = say('keptWhere', { most: MOST_KEPT, letters: MOST_KEPT_LETTERS.toLocaleString(language) });
   element('kept-where').textContent = list.length ? where : `${say('keptNone')}. ${where}`;
-  element('kept-list').replaceChildren(...list.map((it, index) => {
+  element('kept-list').replaceChildren(...list.map(it => {
     const line = document.createElement('li');
     const name = nameOfText(it.text);
     const said = [name, new Date(it.time).toLocaleString(language), ...(it.isLinked ? [say('byLink')] : [])].join(' · ');
-    const forget = makeButton(`${say('forget')}: ${name}`, () => storeList(list.filter((_, at) => at !== index)), '✕');
+    const forget = makeButton(`${say('forget')}: ${name}`, () => storeList(keptList().filter(({ text }) => text !== it.text)), '✕');
     line.append(makeButton(name, () => takeText(it.text), said), forget);
     return line;
   }));

@@ -3,7 +3,7 @@
 import { element } from '../elements.js';
 import { say } from '../words.js';
 import { solve, solvingNow, stopSolving, whenSolved } from './solving.js';
-import { blockNow, state } from './state.js';
+import { blockNow, isRead, state } from './state.js';
 import { keep, kept } from './storage.js';
 
 const QUICK_MILLISECONDS = 1000;
@@ -13,8 +13,8 @@ let pause;
 
 /** Returns whether the problem on the board isn't solved as it is now. */
 function isWanted() {
-  const number = blockNow()?.number;
-  if (!number || !element('live').checked) return false;
+  const number = element('live').checked && isRead() && blockNow()?.number;
+  if (!number) return false;
   return !solvingNow().isAsNow || !state.isPosedNow(number) || state.isReplaced() || (state.only ? state.only !== number : !state.solvedBlocks[number - 1]);
 }
 

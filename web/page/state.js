@@ -175,9 +175,14 @@ class PageState {
     return this.compared;
   }
 
+  /** Compares them at once; while a long text is still unread, returns how the one before it differed. */
+  comparedNow() {
+    return isRead() ? atOnce(this.compare()) : this.compared;
+  }
+
   /** Returns whether the text on the page is the one that was solved. */
   isSolved() {
-    return atOnce(this.compare()).isSolved;
+    return textNow() === this.solved;
   }
 
   /**
@@ -185,14 +190,14 @@ class PageState {
    * @param {number} number
    */
   isPosedNow(number) {
-    const { isSolved, changed } = atOnce(this.compare());
+    const { isSolved, changed } = this.comparedNow();
     return isSolved || (number <= this.solvedBlocks.length && !changed.has(number));
   }
 
   /** Returns whether the solved problems are those on the page now. */
   isCurrent() {
     if (this.only) return this.isPosedNow(this.only);
-    const { isSolved, isAsLong, changed } = atOnce(this.compare());
+    const { isSolved, isAsLong, changed } = this.comparedNow();
     return isSolved || (this.solvedBlocks.length > 0 && isAsLong && !changed.size);
   }
 
@@ -282,7 +287,7 @@ export function textNow() {
 }
 
 /** Returns whether the problems of the text are known, or soon are. */
-const isRead = () => textNow().length < LONG_TEXT || blocksOf.knows(textNow());
+export const isRead = () => textNow().length < LONG_TEXT || blocksOf.knows(textNow());
 
 /**
  * Returns the problem on the board; null if the text has none.
