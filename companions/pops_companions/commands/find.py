@@ -219,7 +219,7 @@ def answers(collection: Collection, settings: Settings) -> Iterator[Answer]:
     entries, _ = entries_in(file, settings.encoding)
     near = lru_cache(maxsize=8)(collection.near)
     progress = Progress(NAME)
-    # (on a terminal the answers show it, but for those that a page waits for)
+    # (on a terminal what is found shows it, unless a page waits for it)
     progress.is_shown &= settings.output is not None or not sys.stdout.isatty()
     progress.begin(0, len(entries))
     for entry in entries:

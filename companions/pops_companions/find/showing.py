@@ -17,7 +17,7 @@ from pops_companions.show.titles import printable
 from pops_companions.stored import stored_text
 
 _STYLE = stored_text("find/showing.css")
-# Answers to like questions show the same positions: how many are kept in words.
+# Like questions find the same positions: how many are kept in words.
 _MOST_KEPT = 1024
 
 
