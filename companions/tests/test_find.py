@@ -2,6 +2,7 @@
 
 import os
 import random
+import sys
 import tempfile
 import threading
 import time
@@ -15,7 +16,7 @@ from pops_companions.chess.men import Man, Square
 from pops_companions.find.boards import board_of, differences, men_of, variants
 from pops_companions.find.collection import Collection, CollectionError
 from pops_companions.find.entries import Entry, items_of, mirrored_play, play_of
-from pops_companions.input.writing import men_in
+from pops_companions.input.writing import men_in, pieces_line
 from tests import run_here, support
 
 MORPHY = "White Kc8 Ra1 Pb6 Black Ka8 Bb8 Pa7b7"
@@ -226,8 +227,12 @@ class Near(support.InRoom):
         questions.write_text("BeginProblem\n" + "NextProblem\n".join([problem] * 40) + "EndProblem\n")
         self.assertEqual(run_here.companion("pops-find", self.path, "--add", str(questions)).status, 0)
         with mock.patch.object(Collection, "near", autospec=True, side_effect=Collection.near) as looks:
-            outcome = run_here.companion("pops-find", self.path, "--near", str(questions))
+            with mock.patch("pops_companions.find.showing.pieces_line", wraps=pieces_line) as lines:
+                outcome = run_here.companion("pops-find", self.path, "--near", str(questions))
         self.assertEqual((outcome.output.count(b"39 problems found"), looks.call_count), (40, 1))
+        self.assertLessEqual(lines.call_count, 1)
+        words = [sys.executable, str(support.COMPANIONS / "pops-find"), self.path, "--near", str(questions)]
+        self.assertIn("pops-find: 40 of 40 problems", support.said_on_terminal(words)[1])
         with mock.patch("pops_companions.find.boards.Man.of_letter", side_effect=AssertionError):
             self.assertEqual(differences(board(MORPHY), board(MORPHY)), [])
 

@@ -2,6 +2,7 @@
 
 import os
 import signal
+import sys
 from contextlib import contextmanager, suppress
 from itertools import product
 from multiprocessing.connection import Connection
@@ -9,7 +10,7 @@ from typing import Iterator
 from unittest import mock
 
 from pops_companions.many import forked
-from pops_companions.report import reader
+from pops_companions.report import known_lines, reader
 from pops_companions.report.reader import ReportReader
 from pops_companions.review import in_pieces, judging
 from tests import run_here, support
@@ -173,12 +174,33 @@ class InPieces(support.InRoom):
         text += text.partition(b"problem 300\n")[2]
         self.file.write_bytes(text)
         for words in (*WORDS, ["--encoding", "utf-16"]):
-            with mock.patch.multiple(reader, _MOST_TAILS=0, _TAILS={}), mock.patch.object(judging, "_MOST_KEPT", 0):
+            with mock.patch.multiple(reader, _LONGEST_TAIL=0, _TAILS={}), mock.patch.object(judging, "_MOST_LINES", -1):
                 whole = run_here.companion("pops-test", str(self.file), *words)
             self.assertEqual(run_here.companion("pops-test", str(self.file), *words), whole)
             for processors in ({0}, {0, 1}):
                 with pieces_of(3000), mock.patch.object(os, "sched_getaffinity", lambda _: processors):
                     self.assertEqual(run_here.companion("pops-test", str(self.file), *words), whole)
+
+    def test_few_problems_are_kept_and_always_the_last(self) -> None:
+        keys = [b"#2\nplay\n1.%s\nsolutions: 1\n\n" % move for move in b"Ra1-a2 Ra1-a3 Ra1-a4 Ra1-a5 Ra1-a6 Ra1-a7".split()]
+        text = b"".join(b"problem %d\n%s%s" % (at, BOARD, keys[at // 3]) for at in range(3, 18))
+        self.file.write_bytes(text)
+        whole = run_here.companion("pops-test", str(self.file))
+        few = mock.patch.multiple(reader, _MOST_TAILS=2, _TAILS={}), mock.patch.object(judging, "_MOST_KEPT", 2)
+        with few[0], few[1], mock.patch.object(known_lines, "MOST_KNOWN", 2):
+            with mock.patch.object(judging, "judged", side_effect=judging.judged) as made:
+                self.assertEqual(run_here.companion("pops-test", str(self.file)), whole)
+            self.assertLessEqual(len(reader._TAILS), 2)
+            self.assertIn(keys[-1], reader._TAILS)
+        self.assertEqual(made.call_count, 5)
+
+    def test_it_shows_on_a_terminal_how_far_it_is(self) -> None:
+        self.file.write_bytes(report(list(range(1, 10_000))))
+        for form in ("--all", "--page"):
+            words = [sys.executable, str(support.COMPANIONS / "pops-test"), str(self.file), form]
+            said = support.said_on_terminal(words)[1]
+            self.assertRegex(said, rf"^\rpops-test: [0-9]+ % of {self.file} is read")
+            self.assertTrue(said.endswith("\r\n"), said)
 
     def test_problems_that_show_the_same_are_judged_once(self) -> None:
         body = b"title: %d\n" + BOARD + KEY

@@ -21,7 +21,8 @@ def surely_begun(letters: str) -> bool:
     """Returns whether the men of a printed board's letters are few enough of each kind and side for a
     game without promotions.
     """
-    return all(letters.count(letter) <= most for letter, most in _SURELY_BEGUN)
+    men = letters.replace(".", "")
+    return all([men.count(letter) <= most for letter, most in _SURELY_BEGUN])
 
 
 class Count(NamedTuple):

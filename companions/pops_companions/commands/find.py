@@ -4,6 +4,7 @@ import os
 import re
 import sqlite3
 import sys
+from collections.abc import Iterable, Iterator
 from functools import lru_cache
 from pathlib import Path
 from typing import Optional
@@ -16,6 +17,7 @@ from pops_companions.find.dates import whole_date
 from pops_companions.find.entries import EntriesError, Entry, entries_of, items_of
 from pops_companions.find.showing import Answer, as_page, as_text
 from pops_companions.input.writing import men_in
+from pops_companions.many.progress import Progress
 from pops_companions.review.naming import counted
 from pops_companions.show.titles import other_lines, printable
 
@@ -193,8 +195,8 @@ def add(collection: Collection, files: list[str], settings: Settings) -> Status:
     return status
 
 
-def answers(collection: Collection, settings: Settings) -> list[Answer]:
-    """Returns what is found for each question."""
+def answers(collection: Collection, settings: Settings) -> Iterator[Answer]:
+    """Yields what is found for each question."""
 
     def answer(heading: str, asked: Optional[Entry], hits: list[Found]) -> Answer:
         return Answer(heading, asked, hits[: settings.most], len(hits))
@@ -209,12 +211,17 @@ def answers(collection: Collection, settings: Settings) -> list[Answer]:
         if settings.wanted.fragment:
             fragment = Entry("", 0, "", "", "", "", "", settings.wanted.fragment, None)
             hits = list(collection.with_fragment(settings.wanted))
-            return [answer(asked, fragment, hits)]
+            yield answer(asked, fragment, hits)
+            return
         found = [Found(entry, (), ()) for entry in collection.matching(settings.wanted)]
-        return [answer(asked, None, found)]
+        yield answer(asked, None, found)
+        return
     entries, _ = entries_in(file, settings.encoding)
-    made = []
     near = lru_cache(maxsize=8)(collection.near)
+    progress = Progress(NAME)
+    # (on a terminal what is found shows it, unless a page waits for it)
+    progress.is_shown &= settings.output is not None or not sys.stdout.isatty()
+    progress.begin(0, len(entries))
     for entry in entries:
         if settings.near is not None:
             hits = near(entry.board)
@@ -222,19 +229,23 @@ def answers(collection: Collection, settings: Settings) -> list[Answer]:
             hits = [] if entry.play is None else collection.same_play(entry.play)
         others = [it for it in hits if it.entry != entry]
         heading = f"problem {entry.number}: {entry.name}" if entry.name else f"{entry.number}"
-        made.append(answer(heading, entry, others))
-    return made
+        yield answer(heading, entry, others)
+        progress.more()
+    progress.end()
 
 
 def find(collection: Collection, settings: Settings) -> Status:
     """Prints what is found, and writes the page."""
-    found = answers(collection, settings)
+    found: Iterable[Answer] = answers(collection, settings)
     if settings.output is not None:
+        found = list(found)
         page = as_page(found, Path(settings.collection).stem)
         command.write(settings.output, page.encode("utf-8", "replace"))
+    status = Status.FAULTY
     for answer in found:
         sys.stdout.buffer.write(as_text(answer).encode("utf-8", "replace"))
-    return Status.GOOD if any(answer.found for answer in found) else Status.FAULTY
+        status = Status.GOOD if answer.found else status
+    return status
 
 
 def main(words: list[str]) -> Status:

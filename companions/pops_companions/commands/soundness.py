@@ -1,16 +1,17 @@
 """Says which problems of a report of pops are sound, and what is wrong with the others."""
 
-from collections.abc import Callable, Iterator
+from collections.abc import Iterator
 from contextlib import contextmanager
-from functools import partial
 from typing import Optional
 
 from pops_companions import command
 from pops_companions.command import DeviceError, Status, flag, option, word
 from pops_companions.input.given_source import read_given
 from pops_companions.input.writing import text_of_problems
+from pops_companions.many.progress import Progress
 from pops_companions.report.source import NamedText, opened_unfinished_report, unfinished_beside
 from pops_companions.review.beside import Beside
+from pops_companions.review.in_pieces import is_large
 from pops_companions.review.judged_groups import JudgedGroup
 from pops_companions.review.judged_report import Form, JudgedReport
 from pops_companions.review.judgement_page import page
@@ -103,11 +104,13 @@ def pose(file: Optional[str], output: Optional[str]) -> None:
 
 def test(settings: Settings) -> Status:
     """Judges a report and writes what was found."""
-    tally = Tally()
+    tally, progress = Tally(), Progress(NAME)
     with kept_tries(settings.tries) as tries:
         beside = Beside(NAME, settings.solutions, settings.input, settings.short, tries)
-        with opened_texts(settings, beside, tally) as texts:
+        with opened_texts(settings, beside, tally, progress) as texts:
             with command.written(settings.output) as target:
+                # (there the texts show it)
+                progress.is_shown &= not target.isatty()
                 for text in texts:
                     target.write(text)
                     target.flush()
@@ -116,20 +119,22 @@ def test(settings: Settings) -> Status:
 
 @contextmanager
 def opened_texts(
-    settings: Settings, beside: Beside, tally: Tally
+    settings: Settings, beside: Beside, tally: Tally, progress: Progress
 ) -> Iterator[Iterator[bytes]]:
     """Opens the report, and yields what is written, piece by piece: text and CSV problem by problem."""
-    file, encoding = settings.text, settings.encoding
-    named = NamedText(NAME, command.name_of(file), encoding)
-    report = JudgedReport(named, beside, form_of(settings), tally)
+    file, encoding, name = settings.text, settings.encoding, command.name_of(settings.text)
+    report = JudgedReport(NamedText(NAME, name, encoding), beside, form_of(settings), tally)
     if unfinished_beside(file, settings.unfinished) is None:
         with command.opened(file) as source:
-            groups, texts = partial(report.groups, source), partial(report.texts, source)
+            groups, texts = report.groups(source), report.texts(source)
+            if is_large(source):
+                groups = progress.while_read(groups, name, source)
+                texts = progress.while_read(texts, name, source)
             yield texts_of(settings, tally, groups, texts)
         return
     with opened_unfinished_report(NAME, file, settings.unfinished, encoding) as items:
-        groups = partial(report.groups_of, items)
-        yield texts_of(settings, tally, groups, lambda: report.texts_of(groups()))
+        groups = report.groups_of(items)
+        yield texts_of(settings, tally, groups, report.texts_of(groups))
 
 
 def form_of(settings: Settings) -> Form:
@@ -144,18 +149,18 @@ def form_of(settings: Settings) -> Form:
 def texts_of(
     settings: Settings,
     tally: Tally,
-    groups: Callable[[], Iterator[JudgedGroup]],
-    texts: Callable[[], Iterator[bytes]],
+    groups: Iterator[JudgedGroup],
+    texts: Iterator[bytes],
 ) -> Iterator[bytes]:
     """Yields what is written of problems, which are judged alone or as texts."""
     if settings.page:
         most = None if settings.all else MOST_LINES
-        text = page(groups(), tally, settings.heading, settings.encoding, most)
+        text = page(groups, tally, settings.heading, settings.encoding, most)
         yield text.encode("utf-8", "replace")
         return
     if settings.csv:
         yield csv_line(COLUMNS).encode("ascii")
-    yield from texts()
+    yield from texts
     if not settings.csv:
         yield tally.text.encode("ascii") + b"\n"
 

@@ -2,6 +2,7 @@
 
 import html
 from collections.abc import Iterable, Sequence
+from functools import lru_cache
 from typing import NamedTuple, Optional
 
 from pops_companions.find.boards import men_of
@@ -16,6 +17,8 @@ from pops_companions.show.titles import printable
 from pops_companions.stored import stored_text
 
 _STYLE = stored_text("find/showing.css")
+# Like questions find the same positions: how many are kept in words.
+_MOST_KEPT = 1024
 
 
 class Answer(NamedTuple):
@@ -43,8 +46,13 @@ def as_text(answer: Answer) -> str:
         lines.append(f"  {printable(entry.source)}, problem {entry.number}: {printable(entry.name)}")
         if answer.asked is not None:
             lines.append(f"    {found.text}")
-        lines.append(f"    {pieces_line(men_of(entry.board))[len('Pieces ') :]}")
+        lines.append(f"    {_men_in_words(entry.board)}")
     return "\n".join(lines) + "\n"
+
+
+@lru_cache(maxsize=_MOST_KEPT)
+def _men_in_words(board: str) -> str:
+    return pieces_line(men_of(board))[len("Pieces ") :]
 
 
 def as_page(answers: Iterable[Answer], heading: str) -> str:

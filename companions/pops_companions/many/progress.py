@@ -6,8 +6,9 @@ import threading
 import time
 from collections.abc import Callable, Iterator, Sequence
 from contextlib import contextmanager
-from typing import NamedTuple, Optional
+from typing import BinaryIO, NamedTuple, Optional, TypeVar
 
+Read = TypeVar("Read")
 _SECONDS_BETWEEN = 0.5
 # Where standard error is no terminal.
 SECONDS_ELSEWHERE = 30.0
@@ -65,6 +66,14 @@ class Progress:
         """Shows how much of a file is read."""
         percent = 100 * done // max(total, 1)
         self._tell(lambda seconds: f"{self._name}: {percent} % of {name} is read", False)
+
+    def while_read(self, some: Iterator[Read], name: str, source: BinaryIO) -> Iterator[Read]:
+        """Yields what is made of a file, and shows meanwhile how much of the file is read."""
+        size = os.fstat(source.fileno()).st_size
+        for one in some:
+            yield one
+            self.reading(name, source.tell(), size)
+        self.end()
 
     def begin(self, done: int, total: int) -> None:
         """Begins a run of `total` problems, of which `done` are done."""

@@ -103,7 +103,8 @@ class Builder(Generic[Made]):
 
     def _begin(self) -> None:
         self._fault: Optional[items.Fault] = None
-        self._head: Optional[events.HeadEvent] = None
+        # What the head of the problem says.
+        self.head: Optional[events.Head] = None
         self._is_checked = False
         self._phases: list[items.Phase] = []
         self._growing: Optional[GrowingPhase] = None
@@ -117,12 +118,11 @@ class Builder(Generic[Made]):
         if isinstance(event, events.FaultEvent):
             self._fault = event.fault
         elif isinstance(event, events.HeadEvent):
-            self._head = event
+            self.head = event.parts
         elif isinstance(event, events.CheckedEvent):
             self._is_checked = True
         elif isinstance(event, events.PhaseEvent):
-            self._end_phase(None, "unfinished")
-            self._growing = GrowingPhase(event.phase)
+            self.begin_phase(event.phase)
         elif isinstance(event, events.NotPossibleEvent):
             self._end_phase(None, lines.NOT_POSSIBLE.decode("ascii"))
         elif isinstance(event, events.TotalEvent):
@@ -134,6 +134,11 @@ class Builder(Generic[Made]):
                 self._growing.add_node(event)
         return None
 
+    def begin_phase(self, kind: items.PhaseKind) -> None:
+        """Begins a phase, and ends one before it that has no total."""
+        self._end_phase(None, "unfinished")
+        self._growing = GrowingPhase(kind)
+
     def _end_phase(self, total: Optional[items.Total], last_line: str) -> None:
         if self._growing is not None:
             self._phases.append(self._growing.ended(total, last_line))
@@ -142,12 +147,12 @@ class Builder(Generic[Made]):
     def _item(self, end: events.EndEvent) -> Union[items.FaultyItem, items.HeadlessItem, Made]:
         if self._fault is not None:
             return items.FaultyItem(end.problem, self._fault)
-        if self._head is None:
+        if self.head is None:
             return items.HeadlessItem(end.problem, end.unfinished or "")
         self._end_phase(None, f"unfinished: {end.unfinished}")
-        return self._made(self._head, end.unfinished)
+        return self._made(self.head, end.unfinished)
 
-    def _made(self, head: events.HeadEvent, unfinished: Optional[str]) -> Made:
+    def _made(self, head: events.Head, unfinished: Optional[str]) -> Made:
         """Returns a sound problem with this head."""
         raise NotImplementedError
 
@@ -155,9 +160,9 @@ class Builder(Generic[Made]):
 class ItemBuilder(Builder[items.SoundItem]):
     """Makes the items of a report."""
 
-    def _made(self, head: events.HeadEvent, unfinished: Optional[str]) -> items.SoundItem:
+    def _made(self, head: events.Head, unfinished: Optional[str]) -> items.SoundItem:
         phases = None if self._is_checked else tuple(self._phases)
-        return items.SoundItem(*head.parts, phases, unfinished)
+        return items.SoundItem(*head, phases, unfinished)
 
     @property
     def growing(self) -> GrowingPhase:

@@ -7,7 +7,7 @@ from pops_companions.report.moves import Mark, PlayedMove, prefix
 from pops_companions.report.steps import Step, read_step
 
 # So that the memory is bounded.
-MOST_KNOWN = 100_000
+MOST_KNOWN = 1 << 14
 
 
 class Form(NamedTuple):

@@ -25,8 +25,8 @@ HEAD = re.compile(
     + FILES
     + rb"\n"
 )
-# The line of the stipulation and the line of the first phase, which another line follows.
-FIRST_PHASE = re.compile(rb"([^ \n]+(?: [^ \n]+)?)\n(set|play)(?![^\n])")
+# The line of the stipulation and the line of the first phase.
+FIRST_PHASE = re.compile(rb"([^ \n]+(?: [^ \n]+)?)\n(set|play)\n")
 SOUND = b"sound"
 NOT_POSSIBLE = b"not possible"
 TOTAL = re.compile(rb"solutions: (0(?!,)|[1-9][0-9]{0,17})(, stopped)?")

@@ -8,6 +8,7 @@ inside a problem.
 """
 
 import io
+import re
 from collections.abc import Callable, Iterable, Iterator, Sequence
 from enum import Enum
 from functools import lru_cache
@@ -46,12 +47,10 @@ _FAULT_TEXTS: Sequence[str] = stored("input/fault_texts.json")["en"]
 # No line of a report is as long; so a text without line ends isn't read to its end, if it has one.
 _LONGEST_LINE = 1 << 20
 _PIECE = 1 << 16
-# More lines than the head of a problem has, with the line of its first phase.
-_LINES_OF_HEAD = 14
 # The most bytes that an item has after its board, of the ones that are kept for others that say the
 # same, and how many are kept.
 _LONGEST_TAIL = 512
-_MOST_TAILS = 8192
+_MOST_TAILS = 1024
 # What a state makes of a line.
 State = Callable[[bytes], Sequence[events.Event]]
 # What an item says after its board.
@@ -257,31 +256,57 @@ class ReportReader:
         while at < whole:
             found = text.find(lines.ITEM_END, at, whole)
             end = whole if found < 0 else found + len(lines.ITEM_END)
-            head = lines.HEAD.match(text, at, end) if self._state == self._problem and found >= 0 else None
-            tail = b"" if head is None else text[head.end() : end]
-            known = None if head is None else _TAILS.get(tail)
-            if head is not None and known is not None and known[1].are_met(head[4]) and _has_few_kings(head[4]):
-                self._line += text.count(b"\n", at, end)
-                title, author, ranks = head.group(2, 3, 4)
-                yield items.SoundItem(int(head[1]), title, author, _board_of(ranks), *known[0])
+            head = lines.HEAD.match(text, at, end) if self._state == self._problem else None
+            if head is None or not _has_few_kings(head[4]):
+                yield from self._items_of(text[at:end], builder)
             else:
-                for item in self._items_of(text[at : end - 1].split(b"\n"), builder):
-                    self._note_tail(tail, item)
-                    yield item
+                yield from self._item_after(head, end, builder)
             at = end
 
-    def _note_tail(self, tail: bytes, item: items.AnyItem) -> None:
-        """Notes what a finished item says after its board."""
-        if 0 < len(tail) <= _LONGEST_TAIL and len(_TAILS) < _MOST_TAILS:
-            if isinstance(item, items.SoundItem) and item.unfinished is None:
-                said = item.stipulation, item.condition, item.phases
-                _TAILS[tail] = said, Needs(item.phases or ())
+    def _item_after(
+        self, head: "re.Match[bytes]", end: int, builder: ItemBuilder
+    ) -> Iterator[items.AnyItem]:
+        """Takes a head with a board, and what follows it in its text up to a place; yields the item that
+        ends there, if one does.
+        """
+        text, (number, title, author, ranks) = head.string, head.groups()
+        tail = text[head.end() : end]
+        known = _TAILS.get(tail)
+        if known is not None and known[1].are_met(ranks):
+            self._line += text.count(b"\n", head.start(), end)
+            yield items.SoundItem(int(number), title, author, _board_of(ranks), *known[0])
+            return
+        taken = self._take_head(head, end, builder)
+        for item in self._items_of(text[taken:end], builder):
+            _note_tail(tail, item)
+            yield item
 
-    def _items_of(self, lines_left: list[bytes], builder: ItemBuilder) -> Iterator[items.AnyItem]:
-        """Takes lines, and yields the items that end in them."""
-        at = 0
+    def _take_head(self, head: "re.Match[bytes]", end: int, builder: ItemBuilder) -> int:
+        """Takes a head with a board and the line of its first phase; returns where they end, at most in this
+        place. It takes none where another line follows the board.
+        """
+        found = lines.FIRST_PHASE.match(head.string, head.end(), end)
+        try:
+            stipulation, condition = asked_of(found[1] if found else b"")
+        except ValueError:
+            return head.start()
+        assert found is not None
+        number, title, author, ranks = head.groups()
+        self._number, self._unfinished = int(number), None
+        self._board = board_number(ranks)
+        self._begin(stipulation, condition)
+        builder.head = self._number, title, author, _board_of(ranks), stipulation, condition
+        kind = items.PhaseKind(found[2].decode("ascii"))
+        self._phase(kind)
+        builder.begin_phase(kind)
+        self._line += head.string.count(b"\n", head.start(), found.end())
+        return found.end()
+
+    def _items_of(self, text: bytes, builder: ItemBuilder) -> Iterator[items.AnyItem]:
+        """Takes whole lines, and yields the items that end in them."""
+        lines_left, at = text.split(b"\n"), 0
+        lines_left.pop()
         while at < len(lines_left):
-            at += self._take_head(lines_left, at, builder)
             at += self._take_solutions(lines_left, at, builder)
             if at == len(lines_left):
                 return
@@ -290,33 +315,6 @@ class ReportReader:
                 if item is not None:
                     yield item
             at += 1
-
-    def _take_head(self, lines_left: list[bytes], at: int, builder: ItemBuilder) -> int:
-        """Takes a head with a board and the line of its first phase, from a line on; returns how many
-        lines. It takes none where the head is another, or isn't whole.
-        """
-        if self._state != self._problem:
-            return 0
-        text = b"\n".join(lines_left[at : at + _LINES_OF_HEAD])
-        head = lines.HEAD.match(text)
-        found = head and lines.FIRST_PHASE.match(text, head.end())
-        if head is None or found is None or not _has_few_kings(head[4]):
-            return 0
-        (number, title, author, ranks), (asked, phase) = head.groups(), found.groups()
-        try:
-            stipulation, condition = asked_of(asked)
-        except ValueError:
-            return 0
-        self._number, self._unfinished = int(number), None
-        self._board = board_number(ranks)
-        self._begin(stipulation, condition)
-        names = (title, author, _board_of(ranks))
-        builder.take(events.HeadEvent(self._number, *names, stipulation, condition))
-        for event in self._phase(items.PhaseKind(phase.decode("ascii"))):
-            builder.take(event)
-        taken = _LINES_OF_HEAD - (title, author).count(None)
-        self._line += taken
-        return taken
 
     def _take_solutions(self, lines_left: list[bytes], at: int, builder: ItemBuilder) -> int:
         """Takes the solutions from a line on, as far as they are plain; returns how many lines."""
@@ -444,6 +442,15 @@ class ReportReader:
         return events.NodeEvent(self._number, self._kind, place, level, text[2 * level :], move)
 
 
+def _note_tail(tail: bytes, item: items.AnyItem) -> None:
+    """Notes what a finished item says after its board."""
+    if len(tail) <= _LONGEST_TAIL and isinstance(item, items.SoundItem) and item.unfinished is None:
+        if len(_TAILS) >= _MOST_TAILS:
+            _TAILS.clear()
+        said = item.stipulation, item.condition, item.phases
+        _TAILS[tail] = said, Needs(item.phases or ())
+
+
 def _has_few_kings(lines_of_ranks: bytes) -> bool:
     """Returns whether each colour has one king at most."""
     return lines_of_ranks.count(b"K") < 2 and lines_of_ranks.count(b"k") < 2
@@ -451,9 +458,9 @@ def _has_few_kings(lines_of_ranks: bytes) -> bool:
 
 def _board_of(lines_of_ranks: bytes) -> items.Board:
     """Returns the board of eight lines as `8 ........`."""
-    text = lines_of_ranks.decode("ascii")
     # (other boards have most ranks too)
-    return items.Board(tuple([intern(text[at : at + 8]) for at in range(2, len(text), 11)]))
+    ranks = lines_of_ranks.translate(None, b" 12345678").decode("ascii").split()
+    return items.Board(tuple(map(intern, ranks)))
 
 
 def read_events(reader: ReportReader, source: Iterable[bytes]) -> Iterator[events.Event]:

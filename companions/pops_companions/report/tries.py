@@ -289,7 +289,7 @@ class TriesBuilder(Builder[TriesItem]):
         self._lines.extend(lines_of(event))
         return super().take(event)
 
-    def _made(self, head: events.HeadEvent, unfinished: Optional[str]) -> TriesItem:
+    def _made(self, head: events.Head, unfinished: Optional[str]) -> TriesItem:
         phases = {it.kind: it for it in self._phases}
         play = phases.get(items.PhaseKind.PLAY)
         keys, tries = (
@@ -298,7 +298,7 @@ class TriesBuilder(Builder[TriesItem]):
         )
         total = None if play is None else play.total
         shown = (phases.get(items.PhaseKind.SET), keys, total, tries, tuple(self._lines))
-        return TriesItem(*head.parts, *shown, unfinished)
+        return TriesItem(*head, *shown, unfinished)
 
 
 def _first_move(first: events.FirstMoveEvent, below: Sequence[events.Event]) -> FirstMove:

@@ -31,7 +31,7 @@ from pops_companions.review.naming import counted
 # The most lines of a problem whose judgement is kept for others with the same play, and how many are
 # kept.
 _MOST_LINES = 20
-_MOST_KEPT = 8192
+_MOST_KEPT = 1024
 
 
 class Verdict(Enum):
@@ -58,6 +58,8 @@ class Weight(Enum):
     __hash__ = object.__hash__
 
 
+# What a key does, by its trait.
+_TRAITS = {"check": "gives check", "capture": "captures"}
 # The verdict on a problem by the heaviest of its findings; without one of these it is sound.
 _VERDICTS = {Weight.FAULT: Verdict.FAULTY, Weight.FLAW: Verdict.UNSOUND, Weight.OPEN: Verdict.UNDECIDED}
 
@@ -108,8 +110,11 @@ class Judgement:
 
     @property
     def verdict(self) -> Verdict:
-        weights = {finding.weight for finding in self.findings}
-        return next((it for weight, it in _VERDICTS.items() if weight in weights), Verdict.SOUND)
+        weights = [finding.weight for finding in self.findings]
+        for weight, verdict in _VERDICTS.items():
+            if weight in weights:
+                return verdict
+        return Verdict.SOUND
 
     @property
     def reasons(self) -> list[str]:
@@ -119,7 +124,7 @@ class Judgement:
     def of_another(self, item: SoundItem) -> "Judgement":
         """Returns the judgement of another problem, of which the same was found."""
         other = copy(self)
-        other.number, other.item, other.findings = item.number, item, list(self.findings)
+        other.number, other.item = item.number, item
         return other
 
     def find(
@@ -204,8 +209,9 @@ class KeptJudgements:
             if kept.item.phases is item.phases and kept.item.stipulation == item.stipulation:
                 return kept.of_another(item)
         judgement = judged(item, wanted, None)
-        if len(self._kept) < _MOST_KEPT:
-            self._kept[key] = judgement.of_another(item)
+        if len(self._kept) >= _MOST_KEPT:
+            self._kept.clear()
+        self._kept[key] = judgement
         return judgement
 
 
@@ -302,11 +308,10 @@ def _judge_keys(judgement: Judgement, stipulation: Stipulation, play: Phase) -> 
     for key in play.nodes:
         move = key.move
         found = ["check"] * (move.mark is Mark.CHECK) + ["capture"] * move.capture
-        said = {"check": "gives check", "capture": "captures"}
         if found:
-            text = " and ".join(said[trait] for trait in found)
+            text = " and ".join(_TRAITS[trait] for trait in found)
             judgement.find(Weight.NOTE, f"the key {text}", (key.text,))
-        traits.update(dict.fromkeys(found))
+            traits.update(dict.fromkeys(found))
     judgement.key_traits = tuple(traits)
 
 

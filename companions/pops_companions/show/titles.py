@@ -8,7 +8,10 @@ _NO_CHARACTER = re.compile("[\x00-\x08\x0b-\x1f\x7f-\x9f\ud800-\udfff\ufdd0-\ufd
 
 def shown(text: bytes, encoding: str) -> str:
     """Returns a title or an author as text; one that isn't in the encoding is read as Latin-1."""
-    return text.decode(encoding if is_text(text, encoding) else "latin-1")
+    try:
+        return text.decode(encoding)
+    except UnicodeError:
+        return text.decode("latin-1")
 
 
 def is_text(text: bytes, encoding: str) -> bool:
