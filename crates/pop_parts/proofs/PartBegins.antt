@@ -103,12 +103,12 @@ module _ (rule : RuleSet) (problem : Posed) (sound : IsSound problem) (phase : P
   unfolding part_events
   events-begun = search (rules, come-cut, none-before)
 
-  walk-is : part_walk rule problem phase front ≡ walk_count (legal_moves rule) (position_after rule) (h - n) (position_after rule board m)
+  walk-is : part_walk rule problem phase beginning ≡ walk_count (legal_moves rule) (position_after rule) (h - n) (position_after rule board m)
   walk-is = grind (arith, length-append, path-length, size, path_end-append problem.stipulation.goal rule p (path old) m, board-at)
 
   -- the part has begun
   pub opens-begun : (progress : Progress) (new : List Frame) (opened : ℕ) → (is_help problem.stipulation.form ≡ true
       → Counts (exactly (walk_count (legal_moves rule) (position_after rule) (h - n) (position_after rule board m))) (untried_at rule problem progress new) 0
       opened)
-      → IsPartOpened rule problem phase front progress new opened
+      → IsPartOpened rule problem phase beginning progress new opened
   opens-begun progress new opened counted help = counts-if false _ _ _ _ (rw walk-is (counted help))

@@ -6,10 +6,11 @@ ghost use Rattle.pop_tries.specs.ties.Searching.{Goes, HoldsAt, MayStep};
 use crate::desk::Desk;
 use crate::group::beginning_of_keys;
 use crate::progress::{Step, Task, TriesProgress};
-use chess_rules::Rules;
+use chess_rules::{MovePlace, Rules};
 use pop_battle::Frame;
 use pop_events::{Event, Phase, TryEvent};
-use pop_walk::phases::{Progress, Scope, Walk, advance, set_up};
+use pop_walk::mode::Mode;
+use pop_walk::phases::{Progress, Scope, Walk, advance, phase_half_moves, set_up};
 
 /// Begins set play, or finds that it isn't possible.
 #[tactic(auto, unfolding(crate::specs::ties::Searching::HoldsAt, crate::specs::ties::Searching::rank))]
@@ -25,11 +26,19 @@ pub(crate) fn begin_set_play<R: Rules, const N: usize>(task: &Task, desk: &mut D
             event,
         };
     }
-    let walk = Walk::of(&task.problem, phase, Scope::Part);
+    let left = phase_half_moves(&task.problem, phase);
     desk.frames.push(Frame {
-        left: walk.half_moves,
+        place: MovePlace::start(),
+        left,
+        cursor: None,
         ..Frame::default()
     });
+    let walk = Walk {
+        phase,
+        mode: Mode::of(&task.problem),
+        half_moves: left,
+        scope: Scope::Part,
+    };
     Step {
         progress: TriesProgress::InSetPlay {
             progress: Progress::Within { walk, count: 0 },

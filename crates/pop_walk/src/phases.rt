@@ -81,7 +81,7 @@ pub fn phase_half_moves(problem: &Problem, phase: Phase) -> usize
 
 impl Walk {
     /// Returns how to walk a phase of a problem.
-    pub fn of(problem: &Problem, phase: Phase, scope: Scope) -> Walk
+    pub(crate) fn of(problem: &Problem, phase: Phase, scope: Scope) -> Walk
         ensures { result ≡ walk_of problem.now phase scope }
     {
         Walk {

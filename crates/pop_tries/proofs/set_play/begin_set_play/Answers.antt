@@ -1,7 +1,6 @@
-use Rattle.pop_tries.proofs.Words.{Set, ap, arith, false, refl, rules, set_event, true, ◌≡◌}
+use Rattle.pop_tries.proofs.Words.{Set, arith, false, refl, rules, set_event, true, ◌≡◌}
 use Rattle.pop_walk.specs.Events.{is_impossible_phase, opening, phase_start, play_start}
 unfoldable use Rattle.pop_walk.specs.ties.Phases.{HoldsAtProgress}
-use Rattle.pop_walk.specs.declared.phases.Walk.{Walk}
 unfoldable use Rattle.pop_tries.specs.ties.Searching.{HoldsAt}
 use Rattle.pop_tries.proofs.Goings.{with_event}
 use Rattle.pop_tries.proofs.SetPlay.{left_barred, left_begun, paths_begin, walk_begins}
@@ -21,10 +20,9 @@ returns g c =
     let possible : is_impossible_phase g.R.Rules.rule c.args.task.now.problem Set ≡ false =
     grind (arith, c.set_up.ensures.possible, c.if-not-set_up.false) in
     let at : c.set_up.new.board ≡ phase_start c.args.task.now.problem Set = grind (arith, c.set_up.ensures.board, c.if-not-set_up.false) in
-    let left = ap (λ (w : Walk). w.half_moves) c.of-walk.ensures in
     let walks = walk_begins g.R.Rules.rule c.args.task.now.problem c.requires.is_task.sound _ _ _ c.requires.holds.1.none c.push-2.ensures.items
-    left c.set_up.new.board at (search rules) (search rules) in
+    (search rules) c.set_up.new.board at (search rules) (search rules) in
     let cut = paths_begin g.R.Rules.rule c.args.task.now.problem c.requires.is_task.sound _ _ _ c.requires.holds.1.none c.push-2.ensures.items
-    left (search rules) in
+    (search rules) (search rules) in
     with_event g.R.Rules.rule c.args.task.now _ _ _ _ _ (c.requires.holds.0, (walks, omega arith, search rules))
     _ (set_event (opening Set)) (left_begun g.R.Rules.rule c.args.task.now _ _ _ (search rules) possible cut) refl
