@@ -310,7 +310,7 @@ def _buffer_output() -> None:
     text, and not every encoding has all characters of a title.
     """
     if sys.stdout is None:
-        raise DeviceError("standard output is closed")
+        raise DeviceError("standard output is closed, or is a folder")
     if isinstance(sys.stdout, io.TextIOWrapper) and not _takes_all(sys.stdout):
         sys.stdout.reconfigure(errors="backslashreplace")
     if not isinstance(sys.stdout.buffer, io.BufferedIOBase):
@@ -429,7 +429,7 @@ def opened(file: Optional[str]) -> Iterator[BinaryIO]:
     """Opens a file for its bytes, or standard input where no file is named, or `-`."""
     if file in (None, STANDARD_INPUT):
         if sys.stdin is None:
-            raise DeviceError("standard input is closed")
+            raise DeviceError("standard input is closed, or is a folder")
         with suppress(io.UnsupportedOperation):
             note_read(sys.stdin.fileno())
         yield sys.stdin.buffer

@@ -271,7 +271,7 @@ class Streams(unittest.TestCase):
         command = f"'{sys.executable}' '{support.COMPANIONS / 'pops-page'}'"
         for closed, said in ((">&-", "standard output"), ("<&-", "standard input")):
             outcome = support.run(["sh", "-c", f"{command} {closed}"], b"problem 1\n#1\nsound\n\n")
-            self.assertEqual(outcome, (3, b"", f"pops-page: {said} is closed\n"))
+            self.assertEqual(outcome, (3, b"", f"pops-page: {said} is closed, or is a folder\n"))
 
     def test_a_width_that_no_terminal_has(self) -> None:
         command = [sys.executable, str(support.COMPANIONS / "fen2pop"), "--help"]
