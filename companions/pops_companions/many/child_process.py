@@ -157,6 +157,7 @@ class ChildProcess:
             if self._watcher is not None:
                 self._watcher.watch(self.run.pid)
         except BaseException:
+            self._end_begun()
             self._close()
             raise
 
@@ -318,6 +319,14 @@ class ChildProcess:
                 os.waitid(os.P_PID, self.run.pid, os.WEXITED | os.WNOWAIT)
             sessions.end(self.run.pid, self._mark, self._pipe)
         self.run.wait()
+
+    def _end_begun(self) -> None:
+        """Kills what was started before a signal broke the start off, maybe before its number was known."""
+        begun: Optional["subprocess.Popen[bytes]"] = getattr(self, "run", None)
+        if self._has_others:
+            sessions.end(0 if begun is None else begun.pid, self._mark, self._pipe)
+        elif begun is not None:
+            self.send(signal.SIGKILL)
 
     def release(self) -> None:
         """Gives up the hold on the program, once it has ended."""
