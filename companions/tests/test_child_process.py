@@ -42,6 +42,22 @@ def die(*_):
 child_process.killed_with_holder = die
 child_process.ChildProcess(sys.argv[1:2], subprocess.PIPE, subprocess.PIPE)
 """
+# A signal breaks off the start of what watches a program; this one ends slowly what was started, and goes on.
+_BREAKS_OFF = """
+import subprocess, sys
+from pops_companions.many import child_process, sessions
+begun = []
+class Watcher(sessions.Watcher):
+    def _started(self):
+        begun.append(super()._started())
+        begun[0].stdin.close()
+        raise KeyboardInterrupt
+sessions.Watcher, sessions.end = Watcher, lambda *_: begun[0].wait()
+try:
+    child_process.ChildProcess(["/bin/sh"], subprocess.PIPE, subprocess.PIPE)
+except KeyboardInterrupt:
+    sys.exit(7)
+"""
 # A process group of its own, that `timeout` makes.
 _GROUP = "timeout 1800 sleep 1800"
 
@@ -190,6 +206,10 @@ class Ended(support.InRoom):
                     ChildProcess([program], PIPE, PIPE)
                 process = int((self.room / "noted").read_bytes())
                 wait_for(lambda process=process: not sessions.members(process))  # type: ignore[misc]
+
+    def test_a_watch_whose_start_a_signal_breaks_off(self) -> None:
+        words = [sys.executable, "-c", _BREAKS_OFF]
+        self.assertEqual(subprocess.run(words, cwd=support.COMPANIONS).returncode, 7)
 
     def test_a_watcher_that_is_killed_is_replaced(self) -> None:
         program = self.write_program("program", f"#!/bin/sh\n{_LEAVES.format(noted=self.room / 'noted', end='wait')}\n")
