@@ -10,6 +10,7 @@ import time
 import unittest
 from pathlib import Path
 from subprocess import PIPE
+from typing import Any, NoReturn
 from unittest import mock
 
 from pops_companions.many import sessions
@@ -40,6 +41,22 @@ def die(*_):
     os.kill(os.getpid(), signal.SIGKILL)
 child_process.killed_with_holder = die
 child_process.ChildProcess(sys.argv[1:2], subprocess.PIPE, subprocess.PIPE)
+"""
+# A signal breaks off the start of what watches a program; this one ends slowly what was started, and goes on.
+_BREAKS_OFF = """
+import subprocess, sys
+from pops_companions.many import child_process, sessions
+begun = []
+class Watcher(sessions.Watcher):
+    def _started(self):
+        begun.append(super()._started())
+        begun[0].stdin.close()
+        raise KeyboardInterrupt
+sessions.Watcher, sessions.end = Watcher, lambda *_: begun[0].wait()
+try:
+    child_process.ChildProcess(["/bin/sh"], subprocess.PIPE, subprocess.PIPE)
+except KeyboardInterrupt:
+    sys.exit(7)
 """
 # A process group of its own, that `timeout` makes.
 _GROUP = "timeout 1800 sleep 1800"
@@ -164,6 +181,35 @@ class Ended(support.InRoom):
         process = int(noted.read_bytes())
         self.addCleanup(sessions.end, process)
         wait_for(lambda: not sessions.members(process))
+
+    def test_a_start_that_a_signal_breaks_off(self) -> None:
+        """It comes before the number of the program is known, or before the program ends with this process."""
+        begin = subprocess.Popen
+
+        def interrupted(words: list[str], **how: Any) -> NoReturn:
+            begin(words, **how)
+            self.noted(self.room / "noted")
+            raise KeyboardInterrupt
+
+        def hold(*_: int) -> NoReturn:
+            self.noted(self.room / "noted")
+            raise KeyboardInterrupt
+
+        text = f"sleep 1800 & echo $$ > '{self.room}/new'; mv '{self.room}/new' '{self.room}/noted'; wait"
+        program = self.write_program("program", f"#!/bin/sh\n{text}\n")
+        start = "pops_companions.many.child_process."
+        for name, instead in (("killed_with_holder", hold), ("subprocess.Popen", interrupted)):
+            with self.subTest(name):
+                (self.room / "noted").unlink(missing_ok=True)
+                watcher = mock.patch("pops_companions.many.sessions.Watcher")
+                with watcher, mock.patch(start + name, instead), self.assertRaises(KeyboardInterrupt):
+                    ChildProcess([program], PIPE, PIPE)
+                process = int((self.room / "noted").read_bytes())
+                wait_for(lambda process=process: not sessions.members(process))  # type: ignore[misc]
+
+    def test_a_watch_whose_start_a_signal_breaks_off(self) -> None:
+        words = [sys.executable, "-c", _BREAKS_OFF]
+        self.assertEqual(subprocess.run(words, cwd=support.COMPANIONS).returncode, 7)
 
     def test_a_watcher_that_is_killed_is_replaced(self) -> None:
         program = self.write_program("program", f"#!/bin/sh\n{_LEAVES.format(noted=self.room / 'noted', end='wait')}\n")

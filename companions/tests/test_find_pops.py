@@ -7,9 +7,12 @@ import subprocess
 import sys
 import time
 import unittest
+from contextlib import redirect_stderr
+from io import StringIO
 from pathlib import Path
 from typing import Optional
 
+from pops_companions.many.program import without_script
 from tests import support
 
 # Prints the program that is found, or what to do.
@@ -179,6 +182,14 @@ class Places(Room):
         self.assertEqual(self.found(companions), str(self.elsewhere))
         installed = self.program(prefix / "bin" / "pops")
         self.assertEqual(self.found(companions), str(installed))
+
+    def test_what_bash_says_of_a_shortage_isnt_shown(self) -> None:
+        root = self.repository()
+        said = "echo 'find-program: fork: retry' >&2; echo 'pops: release/pops is damaged' >&2"
+        support.write_program(root / FIND_PROGRAM, f"#!/bin/sh\n{said}; echo /found\n")
+        with redirect_stderr(StringIO()) as shown:
+            self.assertEqual(without_script(str(root / "pops"), "pops"), "/found")
+        self.assertEqual(shown.getvalue(), "pops: release/pops is damaged\n")
 
     def test_nowhere(self) -> None:
         away = self.companions(self.room / "away")

@@ -237,6 +237,19 @@ class Judging(support.InRoom):
                 work.rename(other)
         self.assertFalse(self.sheet.exists())
 
+    def test_an_empty_folder_that_others_may_enter_stays(self) -> None:
+        work = self.room / "sheet.html.work"
+        work.mkdir()
+        work.chmod(0o755)
+        outcome = self.judged()
+        self.assertEqual(outcome.status, 2)
+        self.assertIn("sheet.html.work isn't a folder of pops-judge", outcome.error)
+        self.assertEqual(list(work.iterdir()), [])
+        # (as a run leaves it that is killed right after it made it)
+        work.chmod(0o700)
+        self.assertEqual(self.judged().status, 0)
+        self.assertFalse(work.exists())
+
     def test_what_others_put_into_its_folder(self) -> None:
         work, foreign = self.unfinished(), self.room / "foreign"
         (work / "notes").write_bytes(b"ours")

@@ -157,7 +157,7 @@ class ChildProcess:
             if self._watcher is not None:
                 self._watcher.watch(self.run.pid)
         except BaseException:
-            self._close()
+            self._break_off()
             raise
 
     def outcome(
@@ -318,6 +318,21 @@ class ChildProcess:
                 os.waitid(os.P_PID, self.run.pid, os.WEXITED | os.WNOWAIT)
             sessions.end(self.run.pid, self._mark, self._pipe)
         self.run.wait()
+
+    def _break_off(self) -> None:
+        """Kills what was started before a signal came, maybe before its number was known.
+
+        The pipe is closed first: a watcher whose start was broken off kills all that hold it.
+        """
+        begun: Optional["subprocess.Popen[bytes]"] = getattr(self, "run", None)
+        os.close(self._watched)
+        os.close(self._held)
+        if self._has_others:
+            sessions.end(0 if begun is None else begun.pid, self._mark, self._pipe)
+        elif begun is not None:
+            self.send(signal.SIGKILL)
+        if self._watcher is not None:
+            self._watcher.close()
 
     def release(self) -> None:
         """Gives up the hold on the program, once it has ended."""

@@ -3,6 +3,7 @@
 import os
 import signal
 import subprocess
+import sys
 import threading
 from collections.abc import Callable, Generator, Iterator, Sequence
 from contextlib import closing
@@ -130,7 +131,11 @@ def _of_sources(repository: str, name: str) -> Optional[str]:
     script = os.path.join(repository, "scripts", "find-program")
     if not _is_repository(repository) or not os.path.isfile(script):
         return None
-    found = outcome_of([script, name], errors=None)
+    found = outcome_of([script, name])
+    for line in os.fsdecode(found.errors).splitlines():
+        # (where it can't start a process, bash says more)
+        if line.startswith("pops: ") and sys.stderr is not None:
+            print(line, file=sys.stderr)
     return os.fsdecode(found.output).removesuffix("\n") or None
 
 

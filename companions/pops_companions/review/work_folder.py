@@ -30,6 +30,8 @@ _OWN = re.compile(
     r"|(?:solutions|short)\.report(?:\.journal|\.unfinished|\.sum)?)(?:\.[0-9a-f]{12})?"
 )
 _FOLDER = os.O_RDONLY | os.O_DIRECTORY | os.O_NOFOLLOW
+# The permissions of others than the owner.
+_OF_OTHERS = stat.S_IRWXG | stat.S_IRWXO
 # What is said of what is no folder, or a link.
 _NO_FOLDER = (errno.ENOTDIR, errno.ELOOP)
 _SUM = ".sum"
@@ -93,15 +95,17 @@ class WorkFolder:
         CommandError where the folder can't be made, isn't this program's, isn't of this input and these
         programs, or has a run at work.
         """
+        is_new = False
         try:
             # (where a link leads nowhere, no folder can be made)
             self.path.parent.mkdir(parents=True, exist_ok=True)
             while not self._is_held():
                 with suppress(FileExistsError):
                     self.path.mkdir(0o700)
+                    is_new = True
         except OSError as error:
             raise DeviceError(f"cannot write {error.filename}: {error.strerror}") from None
-        self._refuse_foreign()
+        self._refuse_foreign(is_new)
         self._programs = programs
         mark, self._mark = self.path / _MARK, _mark_of(text, programs)
         if mark.exists():
@@ -141,14 +145,17 @@ class WorkFolder:
         """Lets other runs have the folder."""
         self._closing()
 
-    def _refuse_foreign(self) -> None:
+    def _refuse_foreign(self, is_new: bool) -> None:
         """Refuses a folder that this program didn't make, and links in one that it made."""
         names = os.listdir(self._handle)
-        is_own = os.fstat(self._handle).st_uid == os.geteuid()
+        known = os.fstat(self._handle)
         kinds = [os.stat(it, dir_fd=self._handle, follow_symlinks=False).st_mode for it in names]
-        # (killed right after it made the folder, a run left no mark)
-        is_empty = all(_OWN.fullmatch(it) and it.startswith(f"{_MARK}.") for it in names)
-        if not is_own or not all(map(stat.S_ISREG, kinds)) or not (_MARK in names or is_empty):
+        # (killed right after it made the folder, which nobody else may enter, a run left no mark)
+        is_unmarked = (is_new or not known.st_mode & _OF_OTHERS) and all(
+            _OWN.fullmatch(it) and it.startswith(f"{_MARK}.") for it in names
+        )
+        is_own = known.st_uid == os.geteuid() and all(map(stat.S_ISREG, kinds))
+        if not is_own or not (_MARK in names or is_unmarked):
             self._refuse(_FOREIGN)
 
     def _refuse_other(self, mark: bytes) -> None:
