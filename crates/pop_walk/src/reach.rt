@@ -24,7 +24,7 @@ const FEWEST_COMPUTED: usize = 3;
 /// The most men of the mating side with which the walk computes where lines can end.
 const MOST_COMPUTED: u32 = 8;
 
-/// The most such men in Circe, where captured men are reborn, so that more squares stay in reach.
+/// The most men of the mating side in Circe, where captured men are reborn, so that more squares stay in reach.
 const MOST_COMPUTED_REBORN: u32 = 3;
 
 /// Returns where lines to this goal can end: on every square if nothing is known.
