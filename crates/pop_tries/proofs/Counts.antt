@@ -22,10 +22,7 @@ parts : (c r : Move → Bool) (ms : List Move)
 parts c r [] = refl
 parts c r (m ∷ ms) = grind (arith, parts c r ms)
 
--- places that the code finds equal, and different
-equal : (a b : ℕ) → eqb a b ≡ true → a ≡ b
-equal a b same = grind (arith, nat_tests)
-
+-- places that the code finds different
 unequal : (a b : ℕ) → eqb a b ≡ false → a ≢ b
 unequal a b differ same = grind (arith, nat_tests)
 
@@ -81,9 +78,9 @@ module _ (rule : RuleSet) (contest : Contest) (q : Position) where
 
   -- the reply at a place that is known
   pub refuted_by : (refuting : Refuting) (place : ℕ) (by : Move) → AreRefuting rule contest q refuting → IsWellFormed q → is_legal rule q by ≡ true
-      → place ≡ place_of (Some by) → eqb place refuting.last ≡ true → true ≡ refutes rule contest q by
+      → place ≡ place_of (Some by) → place ≡ refuting.last → true ≡ refutes rule contest q by
   refuted_by refuting place by known well legal e same =
-      sym (known.1 by (subst (λ n. IsPlaceOf n by) (equal place refuting.last same) (place_is rule q by place well legal e)))
+      sym (known.1 by (subst (λ n. IsPlaceOf n by) same (place_is rule q by place well legal e)))
 
   -- two replies refute
   pub two_refute : (a b : ℕ) → eqb a b ≡ false → length (filter (refutes rule contest q) (moves_between rule q (a - 1) a)) ≡ 1

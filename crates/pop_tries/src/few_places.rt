@@ -3,20 +3,19 @@ ghost use Rattle.std.specs.Prelude.{◌≡◌, List, ◌∷◌};
 ghost use Rattle.chess_core.specs.declared.man.Move.{Move};
 ghost use Rattle.pop_tries.specs.ties.FewPlaces.{are_few, AreAt, IsPlaceOf};
 
-use chess_rules::MovePlace;
-
-/// The places of at most two moves in the order of moves. Nothing is known of more moves.
+/// The places of at most two moves in the order of moves, as numbers of `MovePlace`. Nothing is known of more
+/// moves.
 #[derive(Clone, Copy)]
 pub(crate) enum FewPlaces {
     Empty,
-    One { place: MovePlace },
-    Two { first: MovePlace, second: MovePlace },
+    One { place: u16 },
+    Two { first: u16, second: u16 },
     Many,
 }
 
 impl FewPlaces {
     /// Returns the places with one more.
-    pub(crate) fn with(self, place: MovePlace) -> FewPlaces
+    pub(crate) fn with(self, place: u16) -> FewPlaces
         ensures { (m : Move) (all rest : List Move) → IsPlaceOf place m → AreAt self all (m ∷ rest)
             → AreAt result all rest }
     {

@@ -109,7 +109,7 @@ fn play_next_key<R: Rules, const N: usize>(
             return Some((by, undo, Refuting::none()));
         }
         unplay::<R>(&mut desk.board, by, undo);
-        candidates.keep(*place, refuting);
+        candidates.keep(place.number(), refuting);
     }
     None
 }
@@ -163,7 +163,7 @@ fn play_next_try<R: Rules, const N: usize>(
     while let Some(by) = next_move::<R>(&mut cursor, place, &mut desk.board) {
         if may_be(candidates.set, by) {
             let undo = play::<R>(&mut desk.board, by);
-            let kept = candidates.kept_at(index as usize, *place);
+            let kept = candidates.kept_at(index as usize, place.number());
             let mut refuting = Refuting::none();
             if is_try_as_kept::<R, N>(contest, task.most, kept, &mut refuting, desk) {
                 return Some((by, undo, refuting));
@@ -215,7 +215,7 @@ fn is_shown<R: Rules, const N: usize>(
     contest: Contest,
     first: &First,
     by: Move,
-    place: MovePlace,
+    place: u16,
     desk: &mut Desk<R, N>,
 ) -> bool
     requires ready { IsReady contest desk.old N }
@@ -251,7 +251,7 @@ pub(crate) fn next_reply<R: Rules, const N: usize>(
 {
     let mut cursor = None;
     while let Some(by) = next_move::<R>(&mut cursor, place, &mut desk.board) {
-        if is_shown::<R, N>(contest, first, by, *place, desk) {
+        if is_shown::<R, N>(contest, first, by, place.number(), desk) {
             return Some(by);
         }
     }
@@ -275,7 +275,7 @@ pub(crate) fn next_refutation<R: Rules, const N: usize>(
 {
     let mut cursor = None;
     while let Some(by) = next_move::<R>(&mut cursor, place, &mut desk.board) {
-        if is_refutation::<R, N>(contest, refuting, by, *place, desk) {
+        if is_refutation::<R, N>(contest, refuting, by, place.number(), desk) {
             return Some(by);
         }
     }

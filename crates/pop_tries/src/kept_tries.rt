@@ -4,16 +4,15 @@ ghost use Rattle.pop_tries.specs.ties.Candidates.{candidates_of, try_at};
 
 use crate::move_set::MoveSet;
 use crate::refuting::Refuting;
-use chess_rules::MovePlace;
 
 /// The most tries that are kept.
 pub(crate) const MOST_KEPT: usize = 16;
 
-/// A try, by its place in the order of moves, and what is known of its refutations. The start means no try.
+/// A try, by its place in the order of moves, and what is known of its refutations. At place 0 is no move.
 #[derive(Clone, Copy)]
 pub(crate) struct KeptTry {
     pub refuting: Refuting,
-    pub place: MovePlace,
+    pub place: u16,
 }
 
 /// The first moves that may be tries, and some that are.
@@ -34,7 +33,7 @@ impl Candidates {
     {
         let none = KeptTry {
             refuting: Refuting::none(),
-            place: MovePlace::start(),
+            place: 0,
         };
         Candidates {
             kept: [none; MOST_KEPT],
@@ -44,7 +43,7 @@ impl Candidates {
     }
 
     /// Keeps a try and its refutations, if they are known and there is room.
-    pub(crate) fn keep(&mut self, place: MovePlace, refuting: Option<Refuting>)
+    pub(crate) fn keep(&mut self, place: u16, refuting: Option<Refuting>)
         ensures set { self.new.set ≡ self.old.set }
         ensures kept { (i : ℕ) → i < MOST_KEPT
             → (try_at self.new.kept i ≡ try_at self.old.kept i)
@@ -62,14 +61,14 @@ impl Candidates {
     }
 
     /// Returns the refutations that are kept at `index`, if they are of the try at `place`.
-    pub(crate) fn kept_at(&self, index: usize, place: MovePlace) -> Option<Refuting>
+    pub(crate) fn kept_at(&self, index: usize, place: u16) -> Option<Refuting>
         ensures { IfSome result (λ set. (i : ℕ) × (i < MOST_KEPT)
             × (set ≡ (try_at self.now.kept i).refuting)
             × ((try_at self.now.kept i).place ≡ place)) }
     {
         if index < MOST_KEPT {
             let kept = self.kept[index];
-            if kept.place.is(place) {
+            if kept.place == place {
                 return Some(kept.refuting);
             }
         }

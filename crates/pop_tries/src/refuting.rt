@@ -3,15 +3,14 @@ ghost use Rattle.std.specs.Prelude.{◌≡◌};
 ghost use Rattle.pop_tries.specs.ties.MoveSets.{nothing_refuting};
 
 use crate::move_set::MoveSet;
-use chess_rules::MovePlace;
 
 /// The replies that may refute a first move, and one that does.
 #[derive(Clone, Copy)]
 pub(crate) struct Refuting {
     /// Holds the replies that refute.
     pub moves: MoveSet,
-    /// The place of a reply that refutes in the order of moves; the start if none is known.
-    pub last: MovePlace,
+    /// The place of a reply that refutes in the order of moves; 0 if none is known.
+    pub last: u16,
 }
 
 impl Refuting {
@@ -21,7 +20,7 @@ impl Refuting {
     {
         Refuting {
             moves: MoveSet::none(),
-            last: MovePlace::start(),
+            last: 0,
         }
     }
 }

@@ -92,7 +92,7 @@ pub(crate) fn is_refutation<R: Rules, const N: usize>(
     contest: Contest,
     refuting: Refuting,
     by: Move,
-    place: MovePlace,
+    place: u16,
     desk: &mut Desk<R, N>,
 ) -> bool
     requires ready { IsReady contest desk.old N }
@@ -102,7 +102,7 @@ pub(crate) fn is_refutation<R: Rules, const N: usize>(
     ensures refutes { result ≡ refutes R.rule contest desk.old.board by }
     ensures rest { Keeps desk.old desk.new }
 {
-    if place.is(refuting.last) {
+    if place == refuting.last {
         return true;
     }
     if !refuting.moves.may_hold(by) {
@@ -146,8 +146,8 @@ pub(crate) struct Tally {
     pub most: u32,
     /// Holds the refutations that were counted.
     pub refuting: MoveSet,
-    /// The place of the one that was counted last; the start if there is none.
-    pub last: MovePlace,
+    /// The place of the one that was counted last; 0 if there is none.
+    pub last: u16,
 }
 
 impl Tally {
@@ -268,7 +268,7 @@ fn count_among<R: Rules, const N: usize>(
         if refutes_among::<R, N>(contest, counted, by, desk) {
             count += 1;
             refuting = refuting.with(by);
-            last = place;
+            last = place.number();
             desk.search_state.killers.put(left, place);
             if count > tally.most {
                 return Tally {
@@ -309,7 +309,7 @@ pub(crate) fn count_refutations<R: Rules, const N: usize>(
         count: 0,
         most,
         refuting: MoveSet::none(),
-        last: MovePlace::start(),
+        last: 0,
     };
     if contest.stipulation.half_moves() < FEWEST_FORCING_FIRST {
         return count_among::<R, N>(contest, Counted::All, none, desk);

@@ -179,7 +179,7 @@ fn mating_moves<R: Rules>(board: &mut Board) -> Winners
     let mut places = FewPlaces::Empty;
     while let Some(by) = mates.next(board) {
         moves = moves.with(by);
-        places = places.with(mates.place());
+        places = places.with(mates.place().number());
     }
     Winners { moves, places }
 }
@@ -228,7 +228,7 @@ fn tested_moves<R: Rules, const N: usize>(
     while let Some(by) = next_move::<R>(&mut cursor, &mut place, &mut desk.board) {
         if wins_by::<R, N>(contest, length, by, desk) {
             moves = moves.with(by);
-            places = places.with(place);
+            places = places.with(place.number());
         }
     }
     Winners { moves, places }
@@ -324,10 +324,10 @@ fn all_work<R: Rules, const N: usize>(
     let length = threat.length;
     match threat.places {
         FewPlaces::Empty | FewPlaces::Many => true,
-        FewPlaces::One { place } => works::<R, N>(contest, length, place, desk),
+        FewPlaces::One { place } => { works::<R, N>(contest, length, MovePlace::at(place), desk) }
         FewPlaces::Two { first, second } => {
-            works::<R, N>(contest, length, first, desk)
-                && works::<R, N>(contest, length, second, desk)
+            works::<R, N>(contest, length, MovePlace::at(first), desk)
+                && works::<R, N>(contest, length, MovePlace::at(second), desk)
         }
     }
 }

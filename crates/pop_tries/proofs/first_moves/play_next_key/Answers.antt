@@ -1,5 +1,6 @@
 use Rattle.pop_tries.proofs.Words.{may_be_made, position_after, rules, sym, true, ◌∙◌, ◌≡◌}
 use Rattle.pop_tries.specs.declared.first_moves.Group.TheVariants.{Keys}
+use Rattle.pop_tries.specs.ties.FewPlaces.{IsPlaceOf}
 use Rattle.pop_tries.specs.ties.FirstMoves.{belongs, is_try_after}
 use Rattle.pop_tries.specs.ties.Searching.{contest_of}
 use Rattle.pop_tries.proofs.Candidates.{kept_on, key_refuting}
@@ -29,7 +30,8 @@ loop-by-preserved g c =
     let most = c.args.task.now.most in
     let contest = contest_of c.args.task.now in
     let led = rw here at c.play-undo.ensures.after in
-    let on = place_is rule p c.in-Some.by _ c.requires.ready.well_formed next.1 c.in-Some.ensures.place in
+    let on : IsPlaceOf c.number.result c.in-Some.by =
+    place_is rule p c.in-Some.by c.number.result c.requires.ready.well_formed next.1 (c.number.ensures ∙ c.in-Some.ensures.place) in
     let key = rw led at c.is_key_or_noted.ensures.key in (
       (
         c.unplay.ensures.before p c.requires.ready.well_formed (may_be_made _ _ _ next.1) (c.is_key_or_noted.ensures.rest.board ∙ led)
@@ -40,7 +42,7 @@ loop-by-preserved g c =
       ),
       rw c.keep.ensures.set (held_on rule p (is_try_after rule contest most p) c.loop-by.candidates.set c.is_key_or_noted.new.candidates _ _ c.in-Some.by next.0
           c.loop-by.invariant.1 (rw led at c.is_key_or_noted.ensures.noted) c.is_key_or_noted.ensures.kept),
-      kept_on rule contest most p c.loop-by.candidates.kept c.keep.new.self.kept _ c.in-Some.by c.is_key_or_noted.new.refuting on
+      kept_on rule contest most p c.loop-by.candidates.kept c.keep.new.self.kept c.number.result c.in-Some.by c.is_key_or_noted.new.refuting on
           (rw led at c.is_key_or_noted.ensures.refuting) c.keep.ensures.kept c.loop-by.invariant.2,
     )
 

@@ -1,5 +1,6 @@
 use Rattle.pop_tries.proofs.Words.{after_well_formed, may_be_made, rules, sym, ◌∙◌}
 use Rattle.pop_tries.specs.ties.FirstMoves.{is_try_after}
+use Rattle.pop_tries.specs.ties.FewPlaces.{IsPlaceOf}
 use Rattle.pop_tries.specs.ties.Searching.{contest_of}
 use Rattle.pop_tries.proofs.Candidates.{known_at}
 use Rattle.pop_tries.proofs.FewPlaces.{place_is}
@@ -27,7 +28,8 @@ is_try_as_kept-requires g c =
     let p = c.args.desk.now.board in
     let contest = contest_of c.args.task.now in
     let led = rw here at c.play-undo.ensures.after in
-    let on = place_is rule p c.in-Some.by _ c.requires.ready.well_formed next.1 c.in-Some.ensures.place in (
+    let on : IsPlaceOf c.number.result c.in-Some.by =
+    place_is rule p c.in-Some.by c.number.result c.requires.ready.well_formed next.1 (c.number.ensures ∙ c.in-Some.ensures.place) in (
       search rules,
       (
         rw (c.contest-contest.ensures, led) (record {
@@ -37,7 +39,7 @@ is_try_as_kept-requires g c =
         }),
         (
           c.requires.few,
-          rw (c.contest-contest.ensures, led) (known_at rule contest c.args.task.now.most p c.args.candidates.now.kept _ c.in-Some.by c.kept_at-kept.result on
+          rw (c.contest-contest.ensures, led) (known_at rule contest c.args.task.now.most p c.args.candidates.now.kept c.number.result c.in-Some.by c.kept_at-kept.result on
               c.requires.kept c.kept_at-kept.ensures),
         ),
       ),

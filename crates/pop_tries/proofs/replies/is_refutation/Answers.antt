@@ -10,6 +10,6 @@ returns-then-not-may_hold-clause-refutes g c =
     sym (not_held g.R.Rules.rule p (refutes g.R.Rules.rule c.args.contest p) (Some c.args.refuting.moves) c.args.by c.requires.refuting.0 c.requires.ready.well_formed
     c.requires.legal (sym c.may_hold.ensures ∙ c.if-not-may_hold.true))
 
-pub returns-then-is-clause-refutes : goal.returns-then-is-clause-refutes
-returns-then-is-clause-refutes g c = refuted_by g.R.Rules.rule c.args.contest c.args.desk.now.board c.args.refuting c.args.place c.args.by
-    c.requires.refuting c.requires.ready.well_formed c.requires.legal c.requires.place (sym c.is.ensures ∙ c.if-is.true)
+pub returns-then-place-refuting-clause-refutes : goal.returns-then-place-refuting-clause-refutes
+returns-then-place-refuting-clause-refutes g c = refuted_by g.R.Rules.rule c.args.contest c.args.desk.now.board c.args.refuting c.args.place c.args.by
+    c.requires.refuting c.requires.ready.well_formed c.requires.legal c.requires.place c.if-place-refuting.true

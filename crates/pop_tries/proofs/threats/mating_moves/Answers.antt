@@ -19,7 +19,7 @@ loop-by-preserved g c =
     let legal = mates-legal rule p c.in-Some.by (rw c.loop-by.invariant.0 at c.in-Some.ensures.meets) in
     let put = c.with-moves.ensures in
     let on = place_is rule p c.in-Some.by _ c.requires.well_formed legal
-    (c.place.ensures ∙ ap (λ (v : MatingPlace). v.place) c.in-Some.ensures.place) in (
+    (c.number.ensures ∙ (c.place.ensures ∙ ap (λ (v : MatingPlace). v.place) c.in-Some.ensures.place)) in (
       search rules,
       search rules,
       held_along (filter (is_mating rule p) (legal_moves rule p)) _ _ c.in-Some.by c.loop-by.moves c.with-moves.result rest c.loop-by.invariant.2 put.put put.kept,

@@ -1,4 +1,4 @@
-use Rattle.pop_tries.proofs.Words.{Some, rules, true, ◌≡◌}
+use Rattle.pop_tries.proofs.Words.{Some, rules, true, ◌∙◌, ◌≡◌}
 use Rattle.pop_tries.specs.ties.Contests.{wins_within}
 use Rattle.pop_tries.proofs.FewPlaces.{noted_on, place_is}
 use Rattle.pop_tries.proofs.MoveSets.{held_on}
@@ -11,7 +11,7 @@ loop-by-preserved-then-wins_by g c =
     let test = wins_within rule c.args.contest c.args.length p in
     let next = rw c.loop-by.invariant.0 at c.in-Some.ensures.next in
     let put = c.with-moves.ensures in
-    let on = place_is rule p c.in-Some.by _ c.requires.well_formed next.1 c.in-Some.ensures.place in
+    let on = place_is rule p c.in-Some.by _ c.requires.well_formed next.1 (c.number.ensures ∙ c.in-Some.ensures.place) in
     let wins : test c.in-Some.by ≡ true = search rules in (
       search rules,
       search rules,
