@@ -209,7 +209,7 @@ fn may_lure(theirs: usize, prey: Squares, lures: Squares, rest: Squares) -> bool
     theirs != 0 && lures != prey && rest != 0
 }
 
-// Returns whether a promotion to this kind isn't followed.
+// Returns whether promotions to this kind aren't followed.
 fn is_unfollowed(kind: Kind) -> bool
     ensures { result ≡ is_unfollowed kind }
 {
@@ -225,14 +225,14 @@ fn is_unfollowed(kind: Kind) -> bool
     }
 }
 
-// Returns whether pawns may promote to this kind, and such a promotion isn't followed.
+// Returns whether pawns may promote to this kind, and promotions to it aren't followed.
 fn may_promote_to_unfollowed(board: &Board, kind: Kind) -> bool
     ensures { result ≡ may_promote_to_unfollowed board.now kind }
 {
     is_unfollowed(kind) && board.may_promote(kind)
 }
 
-// Returns the first kind to which pawns may promote, where such a promotion isn't followed.
+// Returns the first kind to which pawns may promote, though promotions to it aren't followed.
 fn unfollowed_promotion(board: &Board) -> Option<Kind>
     ensures { result ≡ find (may_promote_to_unfollowed board.now) kinds }
 {

@@ -103,9 +103,9 @@ fn spread_each(colour: Colour, kind: Kind, squares: Squares) -> Squares
     reached
 }
 
-// Returns the number of squares from which on such men are assumed to reach every square. A rook or queen
-// on more than eight squares has moved already. Another man that got from one square to more than 40 gets
-// to at least 56 with its next move.
+// Returns the number of squares from which on men of this kind are assumed to reach every square. A rook or
+// queen on more than eight squares has moved already. Another man that got from one square to more than 40
+// gets to at least 56 with its next move.
 #[inline(always)]
 fn enough_squares(kind: Kind) -> u32 {
     match kind {

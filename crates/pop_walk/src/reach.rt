@@ -12,7 +12,7 @@ use arrayvec::ArrayVec;
 use chess_attacks::words::contains;
 use chess_core::{Board, Move, Squares};
 use chess_flights::attackers::has_fairy_promotions;
-use chess_reach::mating_squares;
+use chess_reach::{MOST_GUARDS, mating_squares};
 use chess_rules::{Rules, play, unplay};
 use pop_battle::{Frame, LineEnds};
 use pop_stipulation::Goal;
@@ -22,9 +22,9 @@ use pop_stipulation::Goal;
 const FEWEST_COMPUTED: usize = 3;
 
 /// The most men of the mating side with which the walk computes where lines can end.
-const MOST_COMPUTED: u32 = 8;
+const MOST_COMPUTED: u32 = MOST_GUARDS as u32;
 
-/// The most such men in Circe, where captured men are reborn, so that more squares stay in reach.
+/// The most men of the mating side in Circe, where captured men are reborn, so that more squares stay in reach.
 const MOST_COMPUTED_REBORN: u32 = 3;
 
 /// Returns where lines to this goal can end: on every square if nothing is known.

@@ -41,7 +41,7 @@ is_unfollowed Pawn = false
 is_unfollowed Grasshopper = false
 is_unfollowed _ = true
 
--- pawns may promote to this kind, and such a promotion isn't followed
+-- pawns may promote to this kind, and promotions to it aren't followed
 abbrev pub may_promote_to_unfollowed : Position → Kind → Bool
 may_promote_to_unfollowed p k = is_unfollowed k && may_promote p k
 
