@@ -273,6 +273,11 @@ class Streams(unittest.TestCase):
             outcome = support.run(["sh", "-c", f"{command} {closed}"], b"problem 1\n#1\nsound\n\n")
             self.assertEqual(outcome, (3, b"", f"pops-page: {said} is closed\n"))
 
+    def test_python_looks_beside_the_program(self) -> None:
+        companion = str(support.COMPANIONS / "pops-page")
+        outcome = support.run(["env", "PYTHONSAFEPATH=1", companion], OF_THE_PROBLEM)
+        self.assertEqual((outcome.status, outcome.error), (0, ""))
+
     def test_a_width_that_no_terminal_has(self) -> None:
         command = [sys.executable, str(support.COMPANIONS / "fen2pop"), "--help"]
         texts = {}
