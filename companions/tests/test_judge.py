@@ -268,8 +268,8 @@ class Judging(support.InRoom):
         tries = self.script("tries", f"cat > /dev/null\nprintf '{TRIES_OF_ONE}'\n")
         words = ("--pops-tries", tries)
         work = self.unfinished(*words)
-        for name in ("tries-1.txt", "solutions.report"):
-            (work / name).write_bytes((work / name).read_bytes()[:100])
+        for name in ("tries-1.txt", "solutions.report", "solutions.report.unfinished"):
+            (work / name).write_bytes((work / name).read_bytes()[:50])
         self.assertEqual(self.resumed(*words).status, 0)
         (article,) = self.articles()
         self.assertIn("1.Ra8#!", article.words)
@@ -442,6 +442,7 @@ class Judging(support.InRoom):
         for text, said in (
             (wrong, "is no report of pops: line"),
             (wrong.replace("solutions: 9", "solutions: 1").replace("sed '", "sed 's/^#1$/#2/;"), "another stipulation"),
+            (f"sed s/Ra1/Rb1/ | '{support.pops()}' \"$@\"\n", "isn't that of the input: problem 1 differs"),
         ):
             with self.subTest(said):
                 slow = self.until_well("slow", text)

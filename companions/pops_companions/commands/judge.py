@@ -8,11 +8,13 @@ from typing import Optional
 
 from pops_companions import command
 from pops_companions.command import CommandError, DeviceError, Status, flag, option, word
+from pops_companions.commands.sheet import refuse_others
 from pops_companions.input.given import given_problems
 from pops_companions.files import is_device
 from pops_companions.input.given_source import refuse_other_text
 from pops_companions.many.program import LOOKED_FOR, find
 from pops_companions.many.tries_program import TRIES_LOOKED_FOR, find_tries
+from pops_companions.report.items import SoundItem
 from pops_companions.report.source import opened_unfinished_report
 from pops_companions.review.beside import Beside
 from pops_companions.review.judged_groups import JudgedGroup, judged_groups
@@ -114,11 +116,14 @@ def judge(settings: Settings) -> Status:
             work.leave_out_others(tries)
             beside = Beside(NAME, settings.solutions, str(work.input), short, tries)
             judged = judgements_of(settings, work, beside)
-        work.compare(twin.item for one in judged for twin in one.judgements)
+            items = [twin.item for one in judged for twin in one.judgements]
+            boards = boards_of(text)
+            refuse_others("report", [it for it in items if isinstance(it, SoundItem)], given, boards)
+        work.compare(items)
         tally = Tally()
         most = None if settings.all else MOST_LINES
         heading = settings.heading or Path(name).stem
-        evidence = Evidence(boards_of(text), tries, settings.encoding, most)
+        evidence = Evidence(boards, tries, settings.encoding, most)
         page = sheet(tally.counted(judged), tally, heading, evidence)
         command.write(settings.output, page.encode("utf-8", "replace"))
         for one in judged:

@@ -168,6 +168,8 @@ class Work:
     def _many(self, source: Path, report: Path) -> None:
         """Runs what pops-many runs, which goes on where it was stopped."""
         journal = Path(f"{report}.journal")
+        # (the journal has what is in it)
+        files.remove(f"{report}{UNFINISHED}")
         if not journal.is_file() and self.folder.is_sealed(report):
             return
         files.remove(str(report))
