@@ -141,6 +141,16 @@ class Command(support.InRoom):
         self.assertEqual(outcome.status, 3)
         self.assertEqual(outcome.error.count("\n"), 1)
 
+    def test_a_program_that_shows_another_problem(self) -> None:
+        """It writes nothing, calls the problem faulty, or has no key."""
+        fault = f"'{support.pops()}' < /dev/null"
+        keyless = f"'{support.pops()}' | sed '/^1[.]/,$d'; printf 'solutions: 0\\n\\n'"
+        for shows in ("", fault, keyless):
+            liar = self.write_program("pops", f"#!/bin/sh\n{shows}\n")
+            outcome = support.companion("popeye-py", "--pops", liar, text=f"{MORPHY}EndProblem\n".encode())
+            self.assertEqual((outcome.status, outcome.output), (3, b""))
+            self.assertEqual(outcome.error, "popeye-py: pops-tries shows another problem than pops\n")
+
     def test_a_program_of_tries_that_lies(self) -> None:
         """It shows half of its text, up to the end of a line, or another problem."""
         text = f"{MORPHY}EndProblem\n".encode()

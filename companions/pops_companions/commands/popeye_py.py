@@ -21,7 +21,7 @@ from pops_companions.many.program import LOOKED_FOR, RunError
 from pops_companions.many.tries_program import TRIES_LOOKED_FOR
 from pops_companions.report.items import FaultyItem, Node, Phase, SoundItem
 from pops_companions.report.reader import ReportError
-from pops_companions.report.tries import FirstMove, TriesItem
+from pops_companions.report.tries import FirstMove, TriesItem, is_of_item
 from pops_companions.show.titles import printable, shown, text_of
 
 NAME = "popeye-py"
@@ -86,7 +86,10 @@ class Solver:
             raise RunError("pops-tries shows nothing of the problem")
         result = self._run(self._pops, text, begun)
         solved = result.items[0] if result.items else None
-        if isinstance(solved, SoundItem) and _asked(solved) != _asked(item):
+        is_other = result.ending is Ending.COMPLETE
+        if isinstance(solved, SoundItem):
+            is_other = _asked(solved) != _asked(item) or not is_of_item(item, solved)
+        if is_other:
             raise RunError("pops-tries shows another problem than pops")
         yield from _head(one.label, item)
         phases = solved.phases or () if isinstance(solved, SoundItem) else ()
