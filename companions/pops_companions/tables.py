@@ -21,7 +21,11 @@ def row_of(cells: Iterable[object]) -> str:
 
 
 def _cell(value: object) -> str:
-    return in_a_line(uncomputed(value) if isinstance(value, str) else str(value))
+    text = str(value)
+    if isinstance(value, str):
+        # (a quote may open a cell)
+        text = uncomputed(f"'{value}" if _is_formula(value.replace('"', "")) else value)
+    return in_a_line(text)
 
 
 def uncomputed(text: str) -> str:
