@@ -117,8 +117,8 @@ def judge(settings: Settings) -> Status:
             beside = Beside(NAME, settings.solutions, str(work.input), short, tries)
             judged = judgements_of(settings, work, beside)
             items = [twin.item for one in judged for twin in one.judgements]
-            boards = boards_of(text)
-            refuse_others("report", [it for it in items if isinstance(it, SoundItem)], given, boards)
+            sound, boards = [it for it in items if isinstance(it, SoundItem)], boards_of(text)
+            refuse_others("report", sound, given, boards)
         work.compare(items)
         tally = Tally()
         most = None if settings.all else MOST_LINES
