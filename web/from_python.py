@@ -2,8 +2,8 @@
 """Makes the page's module of what the companions have in Python: web/out/companions.js, which isn't tracked.
 
 It translates the definitions that PARTS names, and all that these use, one to one: Python is the source, and `web/python.js` has what
-Python's own types and modules do. Types, docstrings and `assert` are left out. Bytes become strings of characters up to U+00FF. A form of
-Python that has no translation here ends with status 1 and names its line: it is written in a simpler form, or gets a translation.
+Python's own types and modules do. Types, docstrings, `assert` and `lru_cache` are left out. Bytes become strings of characters up to
+U+00FF. A form of Python that has no translation here ends with status 1 and names its line: it is written in a simpler form, or gets a translation.
 """
 import ast
 import json
@@ -634,7 +634,8 @@ class Writer:
             return self.class_of(said, node)
         if isinstance(node, ast.FunctionDef):
             function = self.function(node, said)
-            for it in node.decorator_list:
+            # (what lru_cache keeps changes no result)
+            for it in (it for it in node.decorator_list if not ast.unparse(it).startswith("lru_cache")):
                 function = [f"const {said} = {self.value(it)}({function[0]}", *function[1:-1], "});"]
             return function
         assert isinstance(node, (ast.Assign, ast.AnnAssign))

@@ -10,6 +10,8 @@ from collections.abc import Callable
 from pathlib import Path
 from typing import Any
 
+from pops_companions.report.reader import read_report
+from pops_companions.show.as_json import item_object
 from tests import rebuilt, support
 
 # A test of what an object satisfies.
@@ -119,6 +121,13 @@ class Reports(unittest.TestCase):
                 }
             ],
         )
+
+    def test_equal_moves_are_one_object(self) -> None:
+        """A report of many lines would take many times its memory otherwise."""
+        report = b"problem 1\nh#1\nplay\n1.Kh8-g8 Ra1-a8#\n1.Kh8-g8 Rb1-b8#\nsolutions: 2\n\n"
+        (item,) = read_report([report])
+        one, other = item_object(item, "utf-8")["phases"][0]["solutions"]
+        self.assertIs(one["moves"][0], other["moves"][0])
 
     def test_a_checked_problem_has_no_phases(self) -> None:
         (one,) = objects(b"problem 1\n#1\nsound\n\n")

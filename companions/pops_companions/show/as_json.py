@@ -152,6 +152,8 @@ def _solution(solution: Union[items.HelpLine, items.Node]) -> Json:
     return {"text": solution.text.lstrip(" "), "move": _move(solution.move), "below": below}
 
 
+# (the lines of a long report have few moves, of which each takes more memory than its line)
+@lru_cache(maxsize=1 << 14)
 def _move(move: PlayedMove) -> Json:
     rebirth = move.rebirth
     return {
