@@ -457,6 +457,23 @@ twins: {b: Move a1 b1}
             self.assertEqual(same(back.decode()), same(given.decode()))
         self.assertIsNone(option_left_out("Try left out: nobody knows why"))
 
+    def test_a_remark_takes_no_key_that_the_origin_has(self) -> None:
+        given = f"BeginProblem\nOrigin Chess Monthly 1860\nRemark date: 1861\n{MEN}\nEndProblem\n"
+        text = exported("yaml", text=given.encode())
+        back = run_here.companion("pops-import", text=text.encode())
+        self.assertEqual((back.output.decode(), back.error), (given, ""))
+
+    def test_a_number_of_solutions_beside_a_text_in_its_key(self) -> None:
+        yaml = (
+            b"---\nalgebraic: {white: [Kg6, Ra1], black: [Kh8]}\nstipulation: 'h#1 2.1'\n"
+            b"intended-solutions: two\n"
+        )
+        given = run_here.companion("pops-import", text=yaml).output
+        self.assertIn(b"\nRemark solutions 2\n", given)
+        text = exported("yaml", text=given)
+        back = run_here.companion("pops-import", text=text.encode()).output
+        self.assertEqual(same(back.decode()), same(given.decode()))
+
     def test_awards_dates_and_origins(self) -> None:
         problem = "Pieces White Kg6 Ra1 Black Kh8\nStipulation h#1\n"
         for texts, wanted in (

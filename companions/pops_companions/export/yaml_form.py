@@ -11,6 +11,7 @@ from typing import Optional
 from pops_companions.chess.men import Colour
 from pops_companions.export.problems import Exported
 from pops_companions.export.yaml_fields import Fields, Source, Value, fields_of, put, source_of
+from pops_companions.import_.sections import wanted_of
 from pops_companions.input.writing import men_in
 from pops_companions.report.items import SoundItem
 from pops_companions.show.authors import persons
@@ -145,8 +146,11 @@ def _remarks(fields: Fields) -> Iterator[str]:
     """Yields the keys that Remarks were made of, the number of solutions, and the other Remarks."""
     found = [_WANTED.fullmatch(text) for text in fields.comments]
     wanted = [number[1] for number in found if number]
-    comments = [text for text, number in zip(fields.comments, found) if not number]
-    if wanted and "intended-solutions" not in fields.keys:
+    stored = fields.keys.get("intended-solutions", [])
+    # (a text there that is no number doesn't stand for one)
+    is_comment = bool(stored) and wanted_of(" ".join(stored)) is None
+    comments = [text for text, number in zip(fields.comments, found) if is_comment or not number]
+    if wanted and not stored:
         yield f"intended-solutions: {wanted[-1]}"
     for key, value in fields.keys.items():
         yield from _field(key, value)
