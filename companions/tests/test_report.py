@@ -104,7 +104,7 @@ class Items(unittest.TestCase):
 
     def test_like_ranks_of_boards_are_kept_once(self) -> None:
         board = "".join(f"{rank} .....Q..\n" for rank in range(8, 0, -1)) + "  abcdefgh\n"
-        items = read("".join(f"problem {number}\n{board}#{number}\nsound\n\n" for number in (1, 2)))
+        items = read("".join(f"problem {number}\n{board}={number}\nsound\n\n" for number in (1, 2)))
         ranks = [rank for it in items if isinstance(it, SoundItem) and it.board for rank in it.board.ranks]
         self.assertEqual((len(ranks), len(set(map(id, ranks)))), (16, 1))
 
@@ -401,6 +401,18 @@ class Strictness(unittest.TestCase):
                 self.refused(right.replace(old, new, 1))
         for wrong in ("fault 11: no man", "fault 12: no men"):
             self.refused(f"problem 1\nline 3: {wrong}\n\n")
+
+    def test_the_mated_king_is_on_the_board(self) -> None:
+        board = "8 ......K.\n" + "".join(f"{it} ........\n" for it in range(7, 0, -1)) + "  abcdefgh\n"
+        for asked, king in (("#1", "k"), ("h#1", "k"), ("s#1", "K")):
+            for said in ("sound", "play\nsolutions: 0"):
+                wrong = board.replace("K", "R" if king == "K" else "K")
+                right = wrong.replace(".", king, 1)
+                with self.subTest(asked, said=said):
+                    before = f"problem 1\n{right}{asked}\n{said}\n\n"
+                    self.assertEqual(len(list(read_report([before.encode()]))), 1)
+                    line = self.refused(f"{before}problem 2\n{wrong}{asked}\n{said}\n\n")
+                    self.assertEqual(line, before.count("\n") + 11)
 
     def test_set_play_without_a_total(self) -> None:
         """Only an unfinished problem may lack it, whatever was read before."""

@@ -15,7 +15,8 @@ from functools import lru_cache
 from sys import intern
 from typing import Optional
 
-from pops_companions.chess.stipulation import Condition, Play, Stipulation
+from pops_companions.chess.men import Colour
+from pops_companions.chess.stipulation import Condition, Goal, Play, Stipulation
 from pops_companions.report import events, items, lines
 from pops_companions.report.help_lines import HelpState, LineRefused
 from pops_companions.report.item_builder import GrowingPhase, ItemBuilder
@@ -228,6 +229,8 @@ class ReportReader:
             raise self.refused("a stipulation", line) from None
         if line.count(b" ") > 1:
             raise self.refused("a stipulation and at most one condition", line)
+        if self._ranks and _lacks_king(stipulation, "".join(self._ranks).encode()):
+            raise self.refused("a stipulation whose mated king is on the board", line)
         board = items.Board(tuple(self._ranks)) if self._ranks else None
         self._board = None if board is None else board_of(board.letters)
         self._begin(stipulation, condition)
@@ -272,7 +275,7 @@ class ReportReader:
         text, (number, title, author, ranks) = head.string, head.groups()
         tail = text[head.end() : end]
         known = _TAILS.get(tail)
-        if known is not None and known[1].are_met(ranks):
+        if known is not None and known[1].are_met(ranks) and not _lacks_king(known[0][0], ranks):
             self._line += text.count(b"\n", head.start(), end)
             yield items.SoundItem(int(number), title, author, _board_of(ranks), *known[0])
             return
@@ -292,6 +295,8 @@ class ReportReader:
             return head.start()
         assert found is not None
         number, title, author, ranks = head.groups()
+        if _lacks_king(stipulation, ranks):
+            return head.start()
         self._number, self._unfinished = int(number), None
         self._board = board_number(ranks)
         self._begin(stipulation, condition)
@@ -454,6 +459,12 @@ def _note_tail(tail: bytes, item: items.AnyItem) -> None:
 def _has_few_kings(lines_of_ranks: bytes) -> bool:
     """Returns whether each colour has one king at most."""
     return lines_of_ranks.count(b"K") < 2 and lines_of_ranks.count(b"k") < 2
+
+
+def _lacks_king(stipulation: Stipulation, lines_of_ranks: bytes) -> bool:
+    """Returns whether a board has no king that the stipulation wants mated."""
+    king = b"k" if stipulation.last_side is Colour.WHITE else b"K"
+    return stipulation.goal is Goal.MATE and king not in lines_of_ranks
 
 
 def _board_of(lines_of_ranks: bytes) -> items.Board:
