@@ -924,6 +924,30 @@ test('keeping: a text in work of another tab is kept before it is replaced', () 
   forgetAll();
 });
 
+test('keeping: another tab that is told of a text in work finds whose it is', () => {
+  forgetAll();
+  kept.set('pops.tab', 'another');
+  const { setItem } = localStorage;
+  let told;
+  localStorage.setItem = (name, value) => {
+    setItem(name, value);
+    if (name === 'pops') told = kept.get('pops.tab');
+  };
+  storeText(TEXT);
+  localStorage.setItem = setItem;
+  assert.equal(told, keptInTab.get('pops.tab'));
+});
+
+test('keeping: a replaced text that is kept as one in work stays kept beside the next one', () => {
+  forgetAll();
+  begin(TWO_MOVES);
+  keepProblem(TWO_MOVES, { tab: 'this' });
+  takeText(TEXT);
+  keepProblem('one more', { tab: 'this' });
+  assert.deepEqual(keptTexts(), ['one more', TWO_MOVES]);
+  forgetAll();
+});
+
 test('keeping: a text in work of a copy of this tab is kept before it is replaced', () => {
   begin(TEXT);
   forgetAll();

@@ -55,10 +55,13 @@ export function keepReplaced(text) {
 }
 
 /**
+ * Keeps a text as one of its own, or as a tab's text in work, which the tab's next one replaces. Returns whether it is kept or nobody would
+ * miss it.
  * @param {string} text
  * @param {{ tab?: string }} [more]
  */
-const keepsReplaced = (text, more) => isNobodys(text) || isKeptText(text) || keepProblem(text, more);
+const keepsReplaced = (text, more = {}) => isNobodys(text)
+  || keptList().some(it => it.text === text && (more.tab || !it.tab)) || keepProblem(text, more);
 
 /** Returns the text that another one replaced last, if it isn't kept; empty otherwise. */
 export const unkeptText = () => unkept;
@@ -84,8 +87,8 @@ export function leaveNameToCopy() {
 export function storeText(text) {
   const [stored, tab, own] = [kept('pops'), kept('pops.tab'), tabName()];
   if (stored !== null && tab && tab !== own && stored !== text && !keepsReplaced(stored, { tab })) return;
-  if (keep('pops', text)) keep('pops.tab', own);
-  else storeNoText();
+  // (another tab, which is told of the text, finds whose it is)
+  if (!keep('pops.tab', own) || !keep('pops', text)) storeNoText();
 }
 
 /** Says that the visit alone has the text in work: it is long, or there is no room for it. */
