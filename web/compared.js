@@ -3,7 +3,8 @@
 import { labelOf } from './report.js';
 import { say } from './words.js';
 
-const MOST_TRIES = 12;
+// The most tries, and the most keys, side by side.
+const MOST_COMPARED = 12;
 
 /** @param {Row} row */
 const firstSaid = row => (row.word ? say(`below-${row.word}`) : labelOf(row.moves[0]));
@@ -77,16 +78,17 @@ export function isComparable(phases) {
 }
 
 /**
- * Compares the phases of a problem; null if there is nothing to compare. Tries without variations are left out and counted.
+ * Compares the phases of a problem; null if there is nothing to compare. Tries without variations, and tries and keys beyond the
+ * first twelve, are left out and counted.
  * @template {Row} T
  * @param {{ kind: string, rows: T[] }[]} phases
  * @returns {Comparison<T> | null}
  */
 export function comparisonOf(phases) {
   const [set, tries, play] = ['set', 'tries', 'play'].map(kind => /** @type {T[]} */ (rowsIn(phases, kind)));
-  const shown = tries.filter(hasVariations).slice(0, MOST_TRIES);
+  const shown = tries.filter(hasVariations).slice(0, MOST_COMPARED);
   const ofRow = (/** @type {string} */ kind) => (/** @type {T} */ it) => columnOf(kind, firstSaid(it), it, /** @type {T[]} */ (it.below));
-  const keys = play.map(ofRow('play'));
+  const keys = play.slice(0, MOST_COMPARED).map(ofRow('play'));
   const columns = [...(set.length ? [columnOf('set', say('set'), null, set)] : []), ...shown.map(ofRow('tries')), ...keys];
   if (columns.length < 2) return null;
   /** @type {Map<string, string>} */
@@ -98,5 +100,5 @@ export function comparisonOf(phases) {
     }
   }
   const rows = [...replies].map(([name, label]) => ({ label, cells: withChanges(columns.map(it => cellOf(it, name)), columns) }));
-  return { columns, rows, left: tries.length - shown.length };
+  return { columns, rows, left: tries.length - shown.length, leftKeys: play.length - keys.length };
 }

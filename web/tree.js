@@ -234,7 +234,8 @@ export class Tree {
     }
     const scroll = document.createElement('div');
     scroll.append(table);
-    const left = made.left ? [madeWith('p', say('comparedLeft', { count: made.left }))] : [];
+    const counts = /** @type {[string, number][]} */ ([['comparedLeft', made.left], ['comparedLeftKeys', made.leftKeys]]);
+    const left = counts.flatMap(([name, count]) => (count ? [madeWith('p', say(name, { count }))] : []));
     box.compared.replaceChildren(madeWith('summary', say('compared')), scroll, ...left);
   }
 

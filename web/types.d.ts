@@ -190,7 +190,7 @@ interface ComparedColumn<T> { kind: string; label: string; row: T | null; head: 
 /** White's moves after a reply, and whether they are others than in the play; `!` if the reply refutes. */
 interface ComparedCell<T> { rows: T[]; said: string[]; isChanged: boolean }
 /** Phases side by side, and the number of tries that are left out. */
-interface Comparison<T> { columns: ComparedColumn<T>[]; rows: { label: string; cells: ComparedCell<T>[] }[]; left: number }
+interface Comparison<T> { columns: ComparedColumn<T>[]; rows: { label: string; cells: ComparedCell<T>[] }[]; left: number; leftKeys: number }
 /** A row with its place in the tree, and its elements once they are drawn. */
 interface TreeRow extends Row {
   readonly below: TreeRow[]; parent: TreeRow | null; group: Group; wasOpen?: boolean;

@@ -80,7 +80,7 @@ test('words: a number that may be 1 comes after its noun', () => {
   for (const code of Object.keys(LANGUAGES)) {
     speak(code);
     assert.match(say('solving', { problem: '#2', seconds: 1, done: 0, parts: 1, found: 1 }), /\p{L}\s?: 1$/u);
-    assert.match(say('comparedLeft', { count: 1 }), /\p{L}\s?: 1,/u);
+    for (const name of ['comparedLeft', 'comparedLeftKeys']) assert.match(say(name, { count: 1 }), /\p{L}\s?: 1,/u);
   }
   speak('en');
 });
@@ -1172,6 +1172,16 @@ test('tree: set play, tries and play side by side, with what changes', () => {
   begin(TWO_MOVES, TRIES);
   assert.equal(views.tree.list.children[0].children.some(it => it.tagName === 'DETAILS'), false);
   assert.equal(comparisonOf([]), null);
+});
+
+test('tree: of many keys the first twelve are compared, and the page says how many are left', () => {
+  const keys = [...'abcdefghijklm'].map((_, at) => `1.Qb1-${'abcdefgh'[at % 8]}${3 + (at >> 3)}\n`).join('');
+  begin(TWO_MOVES, `problem 1\n#2\nplay\n${keys}solutions: 13\n\n`);
+  const box = views.tree.list.children[0].children.at(-1);
+  box.open = true;
+  box.ontoggle();
+  assert.equal(box.querySelectorAll('tr')[0].children.length, 13);
+  assert.match(box.textContent, /keys not shown: 1,/);
 });
 
 test('fields: the stipulation is a choice and a number; another word is a choice of its own', () => {
