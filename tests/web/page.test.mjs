@@ -924,18 +924,18 @@ test('keeping: a text in work of another tab is kept before it is replaced', () 
   forgetAll();
 });
 
-test('keeping: another tab that is told of a text in work finds whose it is', () => {
+test('keeping: another tab that sees a text in work come in finds whose it is', () => {
   forgetAll();
   kept.set('pops.tab', 'another');
   const { setItem } = localStorage;
-  let told;
+  let seen;
   localStorage.setItem = (name, value) => {
     setItem(name, value);
-    if (name === 'pops') told = kept.get('pops.tab');
+    if (name === 'pops') seen = kept.get('pops.tab');
   };
   storeText(TEXT);
   localStorage.setItem = setItem;
-  assert.equal(told, keptInTab.get('pops.tab'));
+  assert.equal(seen, keptInTab.get('pops.tab'));
 });
 
 test('keeping: a replaced text that is kept as one in work stays kept beside the next one', () => {

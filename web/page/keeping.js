@@ -87,7 +87,7 @@ export function leaveNameToCopy() {
 export function storeText(text) {
   const [stored, tab, own] = [kept('pops'), kept('pops.tab'), tabName()];
   if (stored !== null && tab && tab !== own && stored !== text && !keepsReplaced(stored, { tab })) return;
-  // (another tab, which is told of the text, finds whose it is)
+  // (the name first: another tab that sees the text come in finds whose it is)
   if (!keep('pops.tab', own) || !keep('pops', text)) storeNoText();
 }
 
