@@ -58,7 +58,8 @@ class Page:
 
     def solve(self) -> None:
         self.browser.click("#solve")
-        self.browser.wait(SOLVED)
+        # (a long text is read first, and the report before it is there meanwhile)
+        self.browser.wait(f"{SOLVED} && state.isSolved()")
 
     def solve_and_stop(self, text: str) -> None:
         """Solves a text that would take years, by one worker, for a second."""
