@@ -214,14 +214,8 @@ fn is_unfollowed(kind: Kind) -> bool
     ensures { result ≡ is_unfollowed kind }
 {
     match kind {
-        Kind::King
-        | Kind::Queen
-        | Kind::Rook
-        | Kind::Bishop
-        | Kind::Knight
-        | Kind::Pawn
-        | Kind::Grasshopper => false,
-        _ => true,
+        Kind::Grasshopper => false,
+        _ => kind.is_fairy(),
     }
 }
 

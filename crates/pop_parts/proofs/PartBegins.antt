@@ -1,5 +1,5 @@
 -- How a part begins: its solutions come after its first moves.
-use Rattle.pop_parts.proofs.Words.{Frame, IsLinked, IsPartOpened, IsSound, List, Move, Phase, Posed, Position, RuleSet, Progress, [], ap, cut-at, eqb, events_along, false, get_or, is_help, is_legal, legal_moves, length, length-append, length-reverse, nat_tests, nil_from_length, part_events, part_solutions, part_walk, path, path-length, path-more, path_end, path_end-append, path_end-path, phase_half_moves, phase_start, position_after, refl, reverse, rules, some-taken, suc, take, true, walk_count, arith, ℕ, ◌++◌, ◌+◌, ◌-◌, ◌<◌, ◌∙◌, ◌∷◌, ◌≡◌, ◌≤◌}
+use Rattle.pop_parts.proofs.Words.{Frame, IsLinked, IsPartOpened, IsSound, List, Move, Phase, Posed, Position, RuleSet, Progress, [], cut-at, eqb, events_along, false, get_or, is_help, is_legal, legal_moves, length, length-append, length-reverse, nat_tests, nil_from_length, part_events, part_solutions, part_walk, path, path-length, path-more, path_end, path_end-append, path_end-path, phase_half_moves, phase_start, position_after, refl, reverse, rules, some-taken, suc, take, true, walk_count, arith, ℕ, ◌++◌, ◌+◌, ◌-◌, ◌<◌, ◌∙◌, ◌∷◌, ◌≡◌, ◌≤◌}
 use Rattle.pop_parts.proofs.Parts.{part_cut}
 use Rattle.pop_parts.specs.ties.Beginnings.{IsSeeking}
 use Rattle.pop_parts.specs.ties.PartsSeen.{are_legal}

@@ -2,14 +2,14 @@
 use Rattle.std.specs.Prelude.{ℕ, ◌≡◌, ◌≢◌, ◌≤◌, ◌<◌, ◌==◌, Bool, true, false, ◌||◌, ◌&&◌, List, slice_index_or}
 use Rattle.chess_core.specs.declared.man.Colour.TheVariants.{White, Black}
 use Rattle.std.specs.Int.{bit_at}
-use Rattle.chess_core.specs.Position.{Position, may_promote, same_kind}
+use Rattle.chess_core.specs.Position.{Position, is_fairy, may_promote, same_kind}
 use Rattle.chess_core.specs.Squares.{is_square, rank_of}
 use Rattle.chess_core.specs.Steps.{along}
 use Rattle.chess_core.specs.declared.man.Colour.{Colour}
 use Rattle.chess_attacks.specs.Reaches.{forward}
 use Rattle.chess_rules.specs.Legal.{second_rank}
 use Rattle.chess_core.specs.declared.man.Kind.{Kind}
-use Rattle.chess_core.specs.declared.man.Kind.TheVariants.{Bishop, Grasshopper, King, Knight, Pawn, Queen, Rook}
+use Rattle.chess_core.specs.declared.man.Kind.TheVariants.{Grasshopper, King, Pawn}
 use Rattle.chess_core.specs.declared.man.Man.{Man}
 use Rattle.chess_reach.specs.Reach.{Gets, Starts, goes}
 use Rattle.chess_reach.specs.declared.whereabouts.Whereabouts.{Whereabouts}
@@ -32,14 +32,8 @@ by_side Black w b = b
 -- a promotion to this kind isn't followed: neither a knight's leaps nor a queen's lines, which are followed of
 -- promoted pawns, reach all that such a man reaches
 abbrev pub is_unfollowed : Kind → Bool
-is_unfollowed King = false
-is_unfollowed Queen = false
-is_unfollowed Rook = false
-is_unfollowed Bishop = false
-is_unfollowed Knight = false
-is_unfollowed Pawn = false
 is_unfollowed Grasshopper = false
-is_unfollowed _ = true
+is_unfollowed k = is_fairy k
 
 -- pawns may promote to this kind, and promotions to it aren't followed
 abbrev pub may_promote_to_unfollowed : Position → Kind → Bool
