@@ -204,6 +204,15 @@ class SameAsOneRun(unittest.TestCase):
                 self.assertEqual((outcome.status, outcome.output), (3, one.output))
                 self.assertEqual(outcome.error, f"pops-many: cannot open {name}: {reason}\n")
 
+    def test_where_no_file_can_be_opened_an_old_report_stays(self) -> None:
+        with tempfile.TemporaryDirectory() as folder:
+            old = Path(folder, "old.report")
+            old.write_text("an old report")
+            words = ["--pops", support.pops(), "-o", str(old), "nowhere.pop", "nowhere_else.pop"]
+            self.assertEqual(support.companion("pops-many", *words).status, 3)
+            self.assertEqual(old.read_text(), "an old report")
+            self.assertEqual(os.listdir(folder), ["old.report"])
+
 
 class Interruptions(SixProblems):
     def test_a_run_that_fails_is_told_and_resumed(self) -> None:

@@ -107,10 +107,20 @@ class Joined:
 
     def _write(self, report: Report, target: Target) -> None:
         self.refuse()
+        if self._is_empty(report):
+            return
         done = 0
         with target.opened() as file:
             while done < len(report.tasks):
                 done += self._copy(report.tasks.places[done], file)
+
+    def _is_empty(self, report: Report) -> bool:
+        """Whether pops could open no FILE of the report, which then replaces nothing."""
+        journal = self._journal
+        return all(
+            journal.is_finished(it) and it in journal.kept and not journal.kept[it].length
+            for it in report.tasks.places
+        )
 
     @property
     def complete(self) -> bool:
