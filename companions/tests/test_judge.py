@@ -237,16 +237,25 @@ class Judging(support.InRoom):
                 work.rename(other)
         self.assertFalse(self.sheet.exists())
 
-    def test_an_empty_folder_that_others_may_enter_stays(self) -> None:
+    def test_an_empty_folder_that_a_user_made_stays(self) -> None:
         work = self.room / "sheet.html.work"
         work.mkdir()
-        work.chmod(0o755)
-        outcome = self.judged()
-        self.assertEqual(outcome.status, 2)
-        self.assertIn("sheet.html.work isn't a folder of pops-judge", outcome.error)
+        for mode in (0o755, 0o700, 0o1777):
+            work.chmod(mode)
+            outcome = self.judged()
+            self.assertEqual(outcome.status, 2)
+            self.assertIn("sheet.html.work isn't a folder of pops-judge", outcome.error)
+            self.assertEqual(list(work.iterdir()), [])
+        work.rmdir()
+
+    def test_an_empty_folder_of_a_run_that_was_killed_is_taken_up(self) -> None:
+        """It is killed right after it made the folder, also below one that gives its group on."""
+        work = self.room / "sheet.html.work"
+        self.room.chmod(0o2700)
+        killed = mock.patch.object(WorkFolder, "_refuse_foreign", side_effect=KeyboardInterrupt)
+        with killed:
+            self.assertEqual(self.judged().status, 6)
         self.assertEqual(list(work.iterdir()), [])
-        # (as a run leaves it that is killed right after it made it)
-        work.chmod(0o700)
         self.assertEqual(self.judged().status, 0)
         self.assertFalse(work.exists())
 
@@ -284,6 +293,19 @@ class Judging(support.InRoom):
             path.write_bytes(text)
             self.assertIsNone(folder.kept(path))
 
+    def test_files_that_grew_larger_than_memory(self) -> None:
+        folder, path, report = WorkFolder(self.room), self.room / "tries-1.txt", self.room / "short.report"
+        folder.keep(path, b"")
+        report.write_bytes(b"a report\n")
+        folder.seal(report)
+        os.truncate(path, 1 << 40)
+        os.truncate(f"{report}.sum", 1 << 40)
+        self.assertIsNone(folder.kept(path))
+        self.assertFalse(folder.is_sealed(report))
+        work = self.unfinished()
+        os.truncate(work / "pops-judge.mark", 1 << 40)
+        self.assertIn("has a mark that was changed", self.judged("--resume").error)
+
     def test_what_is_kept_for_one_problem_is_not_taken_for_another(self) -> None:
         folder, first, second = WorkFolder(self.room), self.room / "tries-1.txt", self.room / "tries-2.txt"
         folder.keep(first, b"a text\n")
@@ -314,16 +336,17 @@ class Judging(support.InRoom):
         head = "cat > /dev/null\nprintf 'problem 1"
         said = "problem 1: pops-tries ended with status 0: its tries and threats are missing"
         cases = (
-            ("exit 0\n", 6, said),
-            (f"{head}\\n#1\\nplay\\n'\n", 6, said),
-            (f"{head}\\n%0100d\\n\\n'\n", 3, "problem 1: the output of"),
+            ("exit 0\n", said),
+            (f"{head}\\n#1\\nplay\\n'\n", said),
+            (f"{head}\\n%0100d\\n\\n'\n", "/cut is no text of pops-tries: line 2: "),
         )
-        for text, status, error in cases:
+        for text, error in cases:
             with self.subTest(text):
                 cut = self.tries_until_well("cut", text)
                 outcome = self.judged("--pops-tries", cut)
-                self.assertEqual(outcome.status, status)
+                self.assertEqual((outcome.status, outcome.output.count(b": sound: ")), (6, 2))
                 self.assertIn(error, outcome.error)
+                self.assertIn("1.Ra8#!", self.articles()[0].words)
                 self.make_well()
                 again = self.judged("--resume", "--pops-tries", cut)
                 self.assertEqual((again.status, again.error), (0, ""))

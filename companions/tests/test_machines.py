@@ -14,7 +14,7 @@ from unittest import mock
 from pops_companions.many import sessions
 from pops_companions.many.connections import Connections
 from pops_companions.many.machines import PROBE, bundles_of
-from pops_companions.many.parallel import _LOGIN, Ended, Jobs, Parallel
+from pops_companions.many.parallel import _LOGIN, Ended, Jobs, MachinesError, Parallel
 from pops_companions.many.part_program import PartProgram
 from pops_companions.many.parts import Part
 from pops_companions.many.program import RunError
@@ -341,6 +341,13 @@ class OnMachines(support.InRoom):
         self.assertEqual(outcome, (3, b"", "pops-many: pops took more than 1 s\n"))
         with self.assertRaisesRegex(RunError, "^pops-part took more than 1 s$"):
             PartProgram(hangs, 1).report(Part(tasks_of([Source(None, PROBE)])[0], "play", 1, 1), 1)
+
+    def test_a_parallel_that_hangs_here(self) -> None:
+        self.write_program("parallel", "#!/bin/sh\nexec sleep 6000\n")
+        limit = mock.patch("pops_companions.many.parallel._SECONDS_OF_A_VERSION", 0.5)
+        with limit, mock.patch.dict(os.environ, {"PATH": f"{self.room}:{os.environ['PATH']}"}):
+            with self.assertRaisesRegex(MachinesError, "needs GNU parallel"):
+                Parallel(None, None, print)
 
     def test_a_machine_that_hangs_later_is_left_out(self) -> None:
         """It reports the probe, and each login after it has no end, with its reports or without."""

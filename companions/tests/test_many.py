@@ -200,7 +200,9 @@ class SameAsOneRun(unittest.TestCase):
             with self.subTest(name):
                 one = support.run([support.pops(), name])
                 self.assertEqual(one.status, 3)
-                outcome = support.companion("pops-many", "--pops", support.pops(), name)
+                # (it leaves no open file to Python)
+                with mock.patch.dict(os.environ, {"PYTHONWARNINGS": "error"}):
+                    outcome = support.companion("pops-many", "--pops", support.pops(), name)
                 self.assertEqual((outcome.status, outcome.output), (3, one.output))
                 self.assertEqual(outcome.error, f"pops-many: cannot open {name}: {reason}\n")
 

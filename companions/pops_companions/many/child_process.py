@@ -401,7 +401,10 @@ def _plain(path: str) -> str:
 
 
 def outcome_of(
-    words: Sequence[str], text: bytes = b"", errors: Stream = subprocess.PIPE
+    words: Sequence[str],
+    text: bytes = b"",
+    errors: Stream = subprocess.PIPE,
+    seconds: Optional[float] = None,
 ) -> Outcome:
     """Runs a program on a text. OSError where it can't be started or writes too much."""
-    return ChildProcess(words, subprocess.PIPE, errors).outcome(text)
+    return ChildProcess(words, subprocess.PIPE, errors).outcome(text, seconds)

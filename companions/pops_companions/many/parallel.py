@@ -29,6 +29,8 @@ from pops_companions.many.connections import Connections
 
 _SECONDS_BETWEEN_LOOKS = 0.3
 _SECONDS_TO_END = 3.0
+# Only against hanging: it takes a moment.
+_SECONDS_OF_A_VERSION = 300.0
 # How often jobs that are stopped are looked for, until none is left.
 _LOOKS = 100
 _SECONDS_BETWEEN_KILLS = 0.02
@@ -237,7 +239,8 @@ class Parallel:
 
 
 def _is_gnu(parallel: str) -> bool:
-    return outcome_of([parallel, "--version"]).output.startswith(b"GNU parallel")
+    run = outcome_of([parallel, "--version"], seconds=_SECONDS_OF_A_VERSION)
+    return run.output.startswith(b"GNU parallel")
 
 
 def _environment_of(process: int) -> Optional[tuple[int, list[bytes]]]:

@@ -6,7 +6,7 @@ import subprocess
 import sys
 import threading
 from collections.abc import Callable, Generator, Iterator, Sequence
-from contextlib import closing
+from contextlib import ExitStack, closing
 from typing import IO, NoReturn, Optional
 from weakref import WeakSet
 
@@ -337,8 +337,6 @@ class Program(Runs):
         # (loaded only by runs that need it)
         import tempfile
 
-        # (it stays open as long as the result)
-        report = tempfile.TemporaryFile()
         name, text = task.source
         errors = subprocess.DEVNULL if text is None else None
         source = subprocess.PIPE
@@ -348,13 +346,17 @@ class Program(Runs):
                 source = os.open(name, os.O_RDONLY | os.O_CLOEXEC)
             except OSError:
                 return Result(task, UNREADABLE, b"")
-        try:
-            child = self._started([], source, errors, report)
-        finally:
-            if name is not None:
-                os.close(source)
-        child.limit_files(MOST_SPOOLED)
-        run = self._ended(child, text, None)
-        if run.status < 0:
-            raise RunError(self._reason(run.status, b""))
+        with ExitStack() as opened:
+            try:
+                report = opened.enter_context(tempfile.TemporaryFile())
+                child = self._started([], source, errors, report)
+            finally:
+                if name is not None:
+                    os.close(source)
+            child.limit_files(MOST_SPOOLED)
+            run = self._ended(child, text, None)
+            if run.status < 0:
+                raise RunError(self._reason(run.status, b""))
+            # (it stays open as long as the result)
+            opened.pop_all()
         return Result(task, run.status, b"", spooled=report)

@@ -15,7 +15,7 @@ from typing import NamedTuple, NoReturn, Optional, TextIO
 
 from pops_companions import files
 from pops_companions.chess.stipulation import Play
-from pops_companions.command import CommandError, Status
+from pops_companions.command import CommandError, DeviceError, Status
 from pops_companions.commands import many, many_options
 from pops_companions.input.given import GivenProblem
 from pops_companions.input.pieces import cut
@@ -241,7 +241,7 @@ class Work:
         """
         number = wanted.problem.number
         path = self._text_of(number)
-        name = f"problem {number}: the output of {self._runs.tries}"
+        name = f"the output of {self._runs.tries}"
         kept = self.folder.kept(path)
         try:
             text = program.text_of(wanted.text) if kept is None else kept
@@ -254,7 +254,7 @@ class Work:
                 return None
             if others or not wanted.has(item):
                 raise RunError("pops-tries shows another problem")
-        except RunError as error:
+        except DeviceError as error:
             self.failed[number] = str(error)
             self.is_finished = False
             return None

@@ -14,13 +14,16 @@ import os
 import re
 import stat
 import weakref
-from collections.abc import Callable, Mapping
+from collections.abc import Callable, Iterable, Mapping
 from contextlib import suppress
+from functools import partial
+from itertools import chain
 from pathlib import Path
 from typing import NoReturn, Optional
 
 from pops_companions import files
 from pops_companions.command import CommandError, DeviceError, Status
+from pops_companions.many.child_process import MOST_OUTPUT
 from pops_companions.many.identity import Known
 
 _MARK = "pops-judge.mark"
@@ -30,11 +33,15 @@ _OWN = re.compile(
     r"|(?:solutions|short)\.report(?:\.journal|\.unfinished|\.sum)?)(?:\.[0-9a-f]{12})?"
 )
 _FOLDER = os.O_RDONLY | os.O_DIRECTORY | os.O_NOFOLLOW
-# The permissions of others than the owner.
-_OF_OTHERS = stat.S_IRWXG | stat.S_IRWXO
+# The permissions of a new folder, and all that count: by the sticky bit it isn't one that a user made.
+_NEW = stat.S_ISVTX | stat.S_IRWXU
+_ALL = _NEW | stat.S_IRWXG | stat.S_IRWXO
 # What is said of what is no folder, or a link.
 _NO_FOLDER = (errno.ENOTDIR, errno.ELOOP)
 _SUM = ".sum"
+_LENGTH_OF_A_SUM = 2 * hashlib.sha256().digest_size + 1
+_LONGEST_MARK = 1 << 16
+_PIECE = 1 << 20
 _FOREIGN = "isn't a folder of pops-judge: remove it, or name another sheet"
 _CHANGED = "has a mark that was changed, or is of another version: remove it"
 
@@ -42,8 +49,11 @@ _CHANGED = "has a mark that was changed, or is of another version: remove it"
 Programs = Mapping[str, Optional[Known]]
 
 
-def _sum_of(text: bytes) -> bytes:
-    return hashlib.sha256(text).hexdigest().encode("ascii") + b"\n"
+def _sum_of(text: Iterable[bytes]) -> bytes:
+    total = hashlib.sha256()
+    for piece in text:
+        total.update(piece)
+    return total.hexdigest().encode("ascii") + b"\n"
 
 
 def _mark_of(text: bytes, programs: Programs) -> bytes:
@@ -51,7 +61,7 @@ def _mark_of(text: bytes, programs: Programs) -> bytes:
     lines = [_HEAD, f"input {hashlib.sha256(text).hexdigest()}"]
     lines += [f"{name} {_described(path)}" for name, path in programs.items()]
     mark = "".join(line + "\n" for line in lines).encode("ascii")
-    return mark + _sum_of(mark)
+    return mark + _sum_of([mark])
 
 
 def _described(program: Optional[Known]) -> str:
@@ -101,7 +111,7 @@ class WorkFolder:
             self.path.parent.mkdir(parents=True, exist_ok=True)
             while not self._is_held():
                 with suppress(FileExistsError):
-                    self.path.mkdir(0o700)
+                    self.path.mkdir(_NEW)
                     is_new = True
         except OSError as error:
             raise DeviceError(f"cannot write {error.filename}: {error.strerror}") from None
@@ -111,7 +121,8 @@ class WorkFolder:
         if mark.exists():
             if not resume:
                 self._refuse("keeps a run that was stopped: go on with --resume, or remove it")
-            self._refuse_other(mark.read_bytes())
+            with open(mark, "rb") as file:
+                self._refuse_other(file.read(_LONGEST_MARK))
         else:
             self.write(mark, self._mark)
         self.write(self.path / "input.pop", text)
@@ -150,8 +161,8 @@ class WorkFolder:
         names = os.listdir(self._handle)
         known = os.fstat(self._handle)
         kinds = [os.stat(it, dir_fd=self._handle, follow_symlinks=False).st_mode for it in names]
-        # (killed right after it made the folder, which nobody else may enter, a run left no mark)
-        is_unmarked = (is_new or not known.st_mode & _OF_OTHERS) and all(
+        # (killed right after it made the folder, a run left no mark)
+        is_unmarked = (is_new or known.st_mode & _ALL == _NEW) and all(
             _OWN.fullmatch(it) and it.startswith(f"{_MARK}.") for it in names
         )
         is_own = known.st_uid == os.geteuid() and all(map(stat.S_ISREG, kinds))
@@ -162,7 +173,7 @@ class WorkFolder:
         """Refuses a folder with another mark than that of the input and the programs."""
         *lines, checksum = mark.splitlines(keepends=True) or [b""]
         begun = [line.decode("ascii", "replace").rstrip("\n") for line in lines]
-        if checksum != _sum_of(b"".join(lines)) or begun[:1] != [_HEAD]:
+        if checksum != _sum_of(lines) or begun[:1] != [_HEAD]:
             self._refuse(_CHANGED)
         if mark != self._mark:
             self._refuse(_difference(begun, self._mark.decode("ascii").splitlines()))
@@ -188,29 +199,36 @@ class WorkFolder:
 
     def keep(self, path: Path, text: bytes) -> None:
         """Writes a text with its checksum in front, for `kept`."""
-        self.write(path, self._sum_of(path, text) + text)
+        self.write(path, self._sum_of(path, [text]) + text)
 
-    def _sum_of(self, path: Path, text: bytes) -> bytes:
+    def _sum_of(self, path: Path, text: Iterable[bytes]) -> bytes:
         """Returns the checksum of a text, which isn't that of the same text in another file."""
-        return _sum_of(self._mark + os.fsencode(path.name) + b"\n" + text)
+        return _sum_of(chain([self._mark, os.fsencode(path.name), b"\n"], text))
+
+    def _sum_of_file(self, path: Path) -> bytes:
+        with open(path, "rb") as file:
+            return self._sum_of(path, iter(partial(file.read, _PIECE), b""))
 
     def kept(self, path: Path) -> Optional[bytes]:
         """Returns a text that `keep` wrote; None if there is none, or another."""
         try:
-            head, _, text = path.read_bytes().partition(b"\n")
+            with open(path, "rb") as file:
+                if os.fstat(file.fileno()).st_size > MOST_OUTPUT + _LENGTH_OF_A_SUM:
+                    return None
+                head, text = file.read(_LENGTH_OF_A_SUM), file.read()
         except FileNotFoundError:
             return None
-        return text if head + b"\n" == self._sum_of(path, text) else None
+        return text if head == self._sum_of(path, [text]) else None
 
     def seal(self, report: Path) -> None:
         """Notes that a report is whole, for `is_sealed`."""
-        self.write(Path(f"{report}{_SUM}"), self._sum_of(report, report.read_bytes()))
+        self.write(Path(f"{report}{_SUM}"), self._sum_of_file(report))
 
     def is_sealed(self, report: Path) -> bool:
         """Returns whether a report is the one that was noted as whole."""
         try:
-            sealed = Path(f"{report}{_SUM}").read_bytes()
-            return sealed == self._sum_of(report, report.read_bytes())
+            with open(f"{report}{_SUM}", "rb") as file:
+                return file.read(_LENGTH_OF_A_SUM + 1) == self._sum_of_file(report)
         except FileNotFoundError:
             return False
 
