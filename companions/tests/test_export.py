@@ -474,6 +474,24 @@ twins: {b: Move a1 b1}
         back = run_here.companion("pops-import", text=text.encode()).output
         self.assertEqual(same(back.decode()), same(given.decode()))
 
+    def test_remarks_that_look_like_numbers_of_solutions(self) -> None:
+        for remarks in (
+            ["intended-solutions: 3"],
+            ["Intended-Solutions: 3", "solutions 2"],
+            ["intended-solutions: 2", "solutions 2"],
+            ["intended-solutions: 2.1", "intended-solutions: 2.1", "solutions 2"],
+            ["intended-solutions.1: 5"],
+            ["intended-solutions.5:"],
+            ["intended-solutions: two"],
+            ["solutions 3", "solutions 2"],
+        ):
+            with self.subTest(remarks):
+                lines = "".join(f"Remark {it}\n" for it in remarks)
+                given = f"BeginProblem\n{lines}{MEN}\nEndProblem\n"
+                text = exported("yaml", text=given.encode())
+                back = run_here.companion("pops-import", text=text.encode())
+                self.assertEqual((back.output.decode(), back.error), (given, ""))
+
     def test_awards_dates_and_origins(self) -> None:
         problem = "Pieces White Kg6 Ra1 Black Kh8\nStipulation h#1\n"
         for texts, wanted in (

@@ -13,6 +13,7 @@ from pops_companions.input.given import given_problems
 from pops_companions.input.writing import text_of_problems
 from pops_companions.report.items import HelpLine, Item, Node, SoundItem
 from pops_companions.report.reader import read_report
+from pops_companions.report.source import items_with_unfinished
 from pops_companions.review.duals import Place, late_partings, tree_duals
 from pops_companions.review.judging import Judgement, Verdict, judged
 from pops_companions.review.posing import AnswersError, ShortAnswers, posed_problems, shorter
@@ -630,6 +631,18 @@ class Unfinished(unittest.TestCase):
             outcome = run_here.companion("pops-test", *words)
         self.assertEqual((outcome.status, outcome.output), (3, b""))
         self.assertIn("--unfinished isn't of", outcome.error)
+
+    def test_unfinished_problems_keep_no_report_in_memory(self) -> None:
+        one = self.ONE.encode()
+        report = b"".join(one.replace(b"problem 1", b"problem %d" % it) for it in range(2, 9000))
+        with tempfile.TemporaryDirectory() as room:
+            rest = Path(room) / "rest"
+            rest.write_bytes(one.removesuffix(b"solutions: 1\n\n") + self.MARK.encode())
+            source = io.BufferedReader(io.BytesIO(report))  # type: ignore[arg-type]
+            items = items_with_unfinished("pops-test", None, source, str(rest), "utf-8")
+            self.assertEqual([next(items).number, next(items).number], [1, 2])
+            self.assertLess(source.tell(), len(report) // 2)
+            self.assertEqual(sum(1 for _ in items), 8997)
 
     def test_what_pops_many_keeps_of_a_problem_in_parts(self) -> None:
         """Set play and play both have no total there."""

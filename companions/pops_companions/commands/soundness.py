@@ -9,7 +9,7 @@ from pops_companions.command import DeviceError, Status, flag, option, word
 from pops_companions.input.given_source import read_given
 from pops_companions.input.writing import text_of_problems
 from pops_companions.many.progress import Progress
-from pops_companions.report.source import NamedText, opened_unfinished_report, unfinished_beside
+from pops_companions.report.source import NamedText, items_with_unfinished, unfinished_beside
 from pops_companions.review.beside import Beside
 from pops_companions.review.in_pieces import is_large
 from pops_companions.review.judged_groups import JudgedGroup
@@ -124,17 +124,17 @@ def opened_texts(
     """Opens the report, and yields what is written, piece by piece: text and CSV problem by problem."""
     file, encoding, name = settings.text, settings.encoding, command.name_of(settings.text)
     report = JudgedReport(NamedText(NAME, name, encoding), beside, form_of(settings), tally)
-    if unfinished_beside(file, settings.unfinished) is None:
-        with command.opened(file) as source:
+    with command.opened(file) as source:
+        if unfinished_beside(file, settings.unfinished) is None:
             groups, texts = report.groups(source), report.texts(source)
-            if is_large(source):
-                groups = progress.while_read(groups, name, source)
-                texts = progress.while_read(texts, name, source)
-            yield texts_of(settings, tally, groups, texts)
-        return
-    with opened_unfinished_report(NAME, file, settings.unfinished, encoding) as items:
-        groups = report.groups_of(items)
-        yield texts_of(settings, tally, groups, report.texts_of(groups))
+        else:
+            items = items_with_unfinished(NAME, file, source, settings.unfinished, encoding)
+            groups = report.groups_of(items)
+            texts = report.texts_of(groups)
+        if is_large(source):
+            groups = progress.while_read(groups, name, source)
+            texts = progress.while_read(texts, name, source)
+        yield texts_of(settings, tally, groups, texts)
 
 
 def form_of(settings: Settings) -> Form:

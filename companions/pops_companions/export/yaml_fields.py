@@ -12,7 +12,7 @@ Value = Union["dict[str, Value]", "list[str]"]
 _KEYS = (
     *("id", "source-id", "sourceid", "issue-id", "volume", "issue", "round", "keywords", "solution"),
     *("distinction", "award", "awards", "tourney", "judge", "judges"),
-    *("reprint", "reprints", "legend", "dedication", "intended-solutions", "ash", "version"),
+    *("reprint", "reprints", "legend", "dedication", "ash", "version"),
 )
 # (a collection has fewer levels)
 _FIELD = re.compile(rf"((?:{'|'.join(_KEYS)})(?:\.[\w-]+){{0,40}}):(?: (.*))?", re.IGNORECASE)

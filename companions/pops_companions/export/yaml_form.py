@@ -16,7 +16,9 @@ from pops_companions.input.writing import men_in
 from pops_companions.report.items import SoundItem
 from pops_companions.show.authors import persons
 
-_WANTED = re.compile("solutions ([1-9][0-9]{0,8})")
+_INTENDED = "intended-solutions"
+_WANTED = re.compile("solutions [1-9][0-9]{0,8}")
+_SAID = re.compile(rf"{_INTENDED}: (.*\..*)")
 # Keys that have a list, also of one, and a key whose texts are a list.
 _LISTS = ("awards", "judges", "keywords", "reprints")
 _LISTS_OF_TEXTS = (*_LISTS, "judge")
@@ -143,15 +145,18 @@ def _list(key: str, texts: Iterable[str]) -> Iterator[str]:
 
 
 def _remarks(fields: Fields) -> Iterator[str]:
-    """Yields the keys that Remarks were made of, the number of solutions, and the other Remarks."""
-    found = [_WANTED.fullmatch(text) for text in fields.comments]
-    wanted = [number[1] for number in found if number]
-    stored = fields.keys.get("intended-solutions", [])
-    # (a text there that is no number doesn't stand for one)
-    is_comment = bool(stored) and wanted_of(" ".join(stored)) is None
-    comments = [text for text, number in zip(fields.comments, found) if is_comment or not number]
-    if wanted and not stored:
-        yield f"intended-solutions: {wanted[-1]}"
+    """Yields the number of solutions, the keys that Remarks were made of, and the other Remarks."""
+    comments = list(fields.comments)
+    numbers = [place for place, text in enumerate(comments) if _WANTED.fullmatch(text)]
+    if numbers:
+        text = wanted = comments.pop(numbers[-1]).partition(" ")[2]
+        # (2.1 says more than the number that it stands for)
+        for said in filter(None, map(_SAID.fullmatch, comments)):
+            if wanted_of(said[1]) == int(wanted):
+                text = said[1]
+                comments.remove(said[0])
+                break
+        yield f"{_INTENDED}: {_scalar(text)}"
     for key, value in fields.keys.items():
         yield from _field(key, value)
     if comments:

@@ -1,11 +1,13 @@
 """A report as a companion reads it, and what the companion says if it isn't one."""
 
 import os
+import re
 import sys
-from collections.abc import Callable, Iterable, Iterator
+from collections.abc import Callable, Iterable, Iterator, Sequence
 from contextlib import contextmanager
 from enum import Enum
 from functools import partial
+from heapq import merge
 from itertools import chain
 from typing import Any, BinaryIO, Optional, TypeVar, Union
 
@@ -34,6 +36,8 @@ from pops_companions.show.titles import is_text
 
 # What the name of the file ends in that pops-many writes for unfinished problems.
 UNFINISHED = ".unfinished"
+_HEAD = re.compile(rb"problem ([1-9][0-9]{0,17})\n?")
+_LONGEST_LINE = 1 << 16
 
 Read = TypeVar("Read", Item, AnyItem, AnyTriesItem)
 
@@ -73,19 +77,64 @@ def opened_unfinished_report(
     UNFINISHED, are added at the places of their numbers. If no problem was finished, the report is
     empty.
     """
+    with command.opened(file) as source:
+        yield items_with_unfinished(companion, file, source, unfinished, encoding)
+
+
+def items_with_unfinished(
+    companion: str,
+    file: Optional[str],
+    source: BinaryIO,
+    unfinished: Optional[str],
+    encoding: str,
+) -> Iterator[AnyItem]:
+    """Returns the items of a report that is open, with unfinished ones as `opened_unfinished_report` has
+    them.
+    """
     named = unfinished is not None
     unfinished = unfinished_beside(file, unfinished)
-    with command.opened(file) as source:
-        name = file or "standard input"
-        text = NamedText(companion, name, encoding)
-        items = text.whole(source, read_unfinished_report, unfinished is not None)
-        if unfinished is None:
-            yield items
-            return
-        with command.opened(unfinished) as rest:
-            other = NamedText(companion, unfinished, encoding)
-            more = list(other.whole(rest, read_unfinished_report))
-        yield iter(_merged(list(items), more, name, named))
+    name = file or "standard input"
+    text = NamedText(companion, name, encoding)
+    items = text.whole(source, read_unfinished_report, unfinished is not None)
+    if unfinished is None:
+        return items
+    with command.opened(unfinished) as rest:
+        other = NamedText(companion, unfinished, encoding)
+        more = list(other.whole(rest, read_unfinished_report))
+    if source.seekable():
+        begin = source.tell()
+        fits = _fit(_numbers_in(source), more)
+        source.seek(begin)
+    else:
+        whole = list(items)
+        fits, items = _fit((item.number for item in whole), more), iter(whole)
+    if fits:
+        more.sort(key=lambda item: item.number)
+        return merge(items, more, key=lambda item: item.number)
+    if named:
+        message = (
+            f"--unfinished isn't of {name}: both have a problem, or a file holds several reports"
+        )
+        raise CommandError(Status.DEVICE, message)
+    return items
+
+
+def _numbers_in(source: BinaryIO) -> Iterator[int]:
+    """Yields the numbers of a report's problems, without reading these."""
+    for line in iter(partial(source.readline, _LONGEST_LINE), b""):
+        found = _HEAD.fullmatch(line)
+        if found is not None:
+            yield int(found[1])
+
+
+def _fit(numbers: Iterable[int], more: Sequence[AnyItem]) -> bool:
+    """Returns whether problems of these numbers and others are of one report."""
+    others, last = {item.number for item in more}, 0
+    for number in numbers:
+        if number <= last or number in others:
+            return False
+        last = number
+    return len(others) == len(more)
 
 
 def unfinished_beside(file: Optional[str], unfinished: Optional[str]) -> Optional[str]:
@@ -120,26 +169,6 @@ def opened_events(
     with command.opened(file) as source:
         named = NamedText(companion, file or "standard input", "", text)
         yield named.all_of(named.read(pieces_of(source), partial(read_events, reader)))
-
-
-def _merged(
-    items: list[AnyItem], more: list[AnyItem], name: str, must_fit: bool
-) -> Iterable[AnyItem]:
-    """Returns the items of one report and its unfinished ones in the order of their numbers.
-
-    Several joined reports have no order of numbers: they stay as they are, or are refused.
-    """
-    numbers = [item.number for item in items]
-    others = {item.number: item for item in more}
-    is_one = all(one < other for one, other in zip(numbers, numbers[1:]))
-    if is_one and len(others) == len(more) and not others.keys() & set(numbers):
-        return sorted([*items, *more], key=lambda item: item.number)
-    if must_fit:
-        message = (
-            f"--unfinished isn't of {name}: both have a problem, or a file holds several reports"
-        )
-        raise CommandError(Status.DEVICE, message)
-    return items
 
 
 def is_input(line: bytes) -> bool:
