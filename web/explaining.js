@@ -51,8 +51,8 @@ export function placesOf(text, list) {
   const bytes = UTF8.encode(text);
   let [place, passed] = [0, 0];
   const placeOf = (/** @type {string} */ byte) => {
-    place += UTF8.decode(bytes.subarray(passed, Number(byte))).length;
-    passed = Number(byte);
+    // (the first byte of a letter counts, that of four bytes for the letter's two halves)
+    for (; passed < Number(byte); passed++) place += Number((bytes[passed] & 0xc0) !== 0x80) + Number(bytes[passed] >= 0xf0);
     return place;
   };
   const lines = list.matchAll(/^(\d+): .* bytes (\d+) up to (\d+)$/gm);

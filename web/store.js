@@ -64,8 +64,8 @@ export function keptOf(written) {
  */
 export function latestSteps({ texts, place }) {
   let [first, last, room] = [place, place + 1, MOST_STEP_LETTERS - texts[place].length];
-  while (first > 0 && (room -= texts[first - 1].length) >= 0) first--;
-  while (last < texts.length && (room -= texts[last].length) >= 0) last++;
+  while (first > 0 && texts[first - 1].length <= room) room -= texts[--first].length;
+  while (last < texts.length && texts[last].length <= room) room -= texts[last++].length;
   return { texts: texts.slice(first, last), place: place - first };
 }
 

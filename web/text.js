@@ -25,7 +25,7 @@ export const NEW_PROBLEM = 'BeginProblem\nStipulation #2\nEndProblem\n';
  */
 export const withNewProblem = text => `${text}${!text || text.endsWith('\n') ? '' : '\n'}${NEW_PROBLEM}`;
 /** @param {string} word @param {string} full */
-export const isShort = (word, full) => word.length >= 3 && full.toLowerCase().startsWith(word.toLowerCase());
+export const isShort = (word, full) => word.length >= 3 && word.length <= full.length && full.toLowerCase().startsWith(word.toLowerCase());
 
 /** @param {string | undefined} command */
 const isTextCommand = command => command !== undefined && TEXT_LINES.includes(command);
@@ -176,6 +176,17 @@ export function* posedAlike({ words: one }, { words: next }) {
     if (!word || word.word.toLowerCase() !== second?.word.toLowerCase()) return word === second;
     if (at % WORDS_A_STEP === WORDS_A_STEP - 1) yield;
   }
+}
+
+/**
+ * Returns where a problem has the word that another one posed alike has at a place, or next after it.
+ * @param {Block} one
+ * @param {Block} next
+ * @param {number} place a place in the first one
+ */
+export function sameWordIn(one, next, place) {
+  const [before, after] = [one, next].map(({ words }) => words.filter(it => !isTextCommand(it.command)));
+  return place <= one.from ? next.from : after[before.findIndex(it => it.from >= place)]?.from ?? next.end;
 }
 
 /**
@@ -461,7 +472,7 @@ function readField(word, section, fields, state) {
     if (name) {
       state.last = fields[name] = { name, parts: [part], said: '', section, earlier: fields[name] };
       state.awaited = name === 'MaxSolutions' || name === 'EnPassant' ? fields[name] : null;
-    } else if (last?.name === 'NoCastling' && /^([a-h][1-8])+$/i.test(word.word)) {
+    } else if (last?.name === 'NoCastling' && /^(?:[a-h][1-8])+$/i.test(word.word)) {
       last.parts.push(part);
       // (without a look at the letters of what is joined, which would take time that grows by the square)
       last.said += last.said ? ` ${word.word}` : word.word;

@@ -158,6 +158,19 @@ def stopped(page: Page) -> None:
     page.holds("Stopped" in page.told("kept-list"), "a text that was stopped is kept")
 
 
+def asked(page: Page) -> None:
+    """Another language chosen during a search: the page asks before it ends the search."""
+    browser = page.browser
+    page.open("BeginProblem\nPieces White Ke1 Ra1 Rh1 Black Ke8 Pa7b7\nStipulation h#8\nEndProblem\n")
+    browser.click("#solve")
+    browser.run("setTimeout(() => { document.getElementById('language').value = 'de'; document.getElementById('language').onchange(); })")
+    leave_or_stay(page, is_left=False)
+    page.holds(not browser.run(IDLE), "it still solves")
+    browser.click("#stop")
+    browser.wait(READY)
+    browser.run("localStorage.removeItem('pops.language')")
+
+
 def with_tries(page: Page) -> None:
     """Tries, threats and refutations: folded, unfolded, walked through, stopped; none with 0 refutations; help play is solved without."""
     browser = page.browser
@@ -695,6 +708,7 @@ LOOKS: list[Callable[[Page], None]] = [
     with_tries,
     compared,
     stopped,
+    asked,
     grown,
     faulty,
     corrected,

@@ -38,7 +38,7 @@ function begin(text) {
 
 /** Types in place of what is selected in the area, as a browser does. */
 function type(letters) {
-  area.dispatchEvent({ type: 'beforeinput' });
+  area.dispatchEvent({ type: 'beforeinput', inputType: 'insertText', data: letters });
   const { value, selectionStart, selectionEnd } = area;
   const at = selectionStart + letters.length;
   Object.assign(area, { value: value.slice(0, selectionStart) + letters + value.slice(selectionEnd), selectionStart: at, selectionEnd: at });
@@ -226,6 +226,19 @@ test('area: a line that is too long is shown in part, and no letter of two is cu
   assert.equal(area.value.length <= FEW + 2 && area.value.isWellFormed?.() !== false, true);
   select(0, text.length);
   assert.deepEqual(selectionNow(), { from: 0, to: 0 });
+  setText(TEXT);
+});
+
+test('area: of a line of many letters few are shown, since a browser lays out combining ones slowly', () => {
+  const text = `BeginProblem\nRemark e${'\u0301'.repeat(40000)}\n`;
+  begin(text);
+  for (const place of [20000, 30000, 0]) {
+    select(place, place);
+    assert.deepEqual([textNow() === text, selectionNow().from], [true, place]);
+    assert.ok(area.value.length < 13000);
+  }
+  type('é');
+  assert.equal(textNow(), `é${text}`);
   setText(TEXT);
 });
 

@@ -369,6 +369,23 @@ test('a text that is too long for the page is refused', () => {
   }
 });
 
+test('what is typed is refused where the text would be too long; what makes it shorter isn\'t', () => {
+  const almost = 'x'.repeat((1 << 23) - TEXT.length) + TEXT;
+  /** Returns whether the page keeps the browser from putting in what is typed. */
+  const refuses = (inputType, data = null) => {
+    let isRefused = false;
+    views.note('');
+    element('text').dispatchEvent({ type: 'beforeinput', inputType, data, preventDefault: () => { isRefused = true; } });
+    assert.equal(isRefused, /would be longer than 8 MiB/.test(noteNow()));
+    return isRefused;
+  };
+  begin(almost.slice(1));
+  assert.deepEqual([refuses('insertText', 'x'), refuses('insertLineBreak'), refuses('insertFromPaste', 'xx')], [false, false, true]);
+  begin(almost);
+  assert.deepEqual([refuses('insertText', 'x'), refuses('insertLineBreak'), refuses('deleteContentBackward')], [true, true, false]);
+  setText(TEXT);
+});
+
 test('a text that is too long is refused in fields and where it is dropped into the text; a text dropped into a field is left to the browser', () => {
   const long = 'x'.repeat((1 << 23) + 1 - TEXT.length);
   const field = { closest: () => element('field-Title') };
@@ -425,6 +442,23 @@ test('faults: marks at their lines, until the text changes', () => {
   setText(TEXT);
   markFaults();
   assert.equal(element('gutter').children.length, 0);
+});
+
+test('faults: the button goes to the line of the fault, where that is now', () => {
+  const text = `${TEXT.replace('End', 'Next')}Pieces White Kg6 Ra1 Black Kg8\nStipulation #0\nEndProblem\n`;
+  /** Returns what the button selects after a change of the text. */
+  const selected = changed => {
+    setText(changed);
+    element('tree').querySelectorAll('button')[0].click();
+    const { selectionStart, selectionEnd } = element('text');
+    return changed.slice(selectionStart, selectionEnd);
+  };
+  begin(text, `problem 1\n#1\nsound\n\nproblem 2\nline 6: fault 8: bad stipulation\n\n`);
+  assert.equal(selected(text), 'Stipulation #0');
+  assert.equal(selected(text.replace('Pieces', 'Title first\nRemark one\nPieces')), 'Stipulation #0');
+  assert.equal(selected(text.replace('NextProblem\n', 'NextProblem\nTitle second\n\n').replace('#1', '#2')), 'Stipulation #0');
+  assert.equal(selected(`\n${text.replace('#0', '#4')}`), 'NextProblem');
+  assert.equal(selected('another'), 'another');
 });
 
 test('faults: the manual speaks where nothing else is known', () => {
@@ -674,6 +708,10 @@ test('links: a link\'s text is opened beside the text in work, once', () => {
   location.hash = fragmentOf(linked);
   openLink();
   assert.equal(textNow(), linked);
+  location.hash = `#text=${'x'.repeat((1 << 23) + 1)}`;
+  openLink();
+  assert.equal(textNow(), linked);
+  assert.match(noteNow(), /would be longer than 8 MiB/);
   location.hash = fragmentOf('6k1/8/6K1/8/8/8/8/R7 w - - 0 1');
   openLink();
   assert.equal(textNow(), 'BeginProblem\nPieces White Kg6 Ra1 Black Kg8\nStipulation #2\nEndProblem\n');

@@ -122,10 +122,16 @@ test('store: a visit, whose longest parts may be left out', () => {
   assert.deepEqual(visitOf(writtenVisit(visit)), visit);
   const long = 'x'.repeat(300000);
   const { steps, solved } = visitOf(writtenVisit({ ...visit, steps: { texts: [`${long}a`, `${long}b`, 'c', 'd'], place: 2 }, solved: { text: 'c', report: 'r'.repeat(1000000), isBeginning: false, only: 0 } }));
-  assert.deepEqual([steps.texts.map(it => it.length), steps.place, solved], [[300001, 1], 1, null]);
+  assert.deepEqual([steps.texts.map(it => it.length), steps.place, solved], [[300001, 1, 1], 1, null]);
   assert.deepEqual(['', 'x', '{}', '{"steps":{"texts":[1],"place":0},"number":1,"link":""}', null].map(visitOf), [null, null, null, null, null]);
   const again = new Steps('c', visit.steps);
   assert.deepEqual([again.texts, again.go(-1), new Steps('b', visit.steps).has(1)], [['a', 'b', 'c'], 'b', true]);
+});
+
+test('text: a word of millions of squares is read', () => {
+  const squares = 'a1'.repeat(1 << 22);
+  const text = `BeginProblem Option NoCastling ${squares} EndProblem`;
+  assert.equal(valueOf(fieldsOf(text, blocksOf(text)[0]), 'NoCastling'), squares);
 });
 
 test('text: a title takes nothing of the line that opens the problem', () => {

@@ -8,6 +8,8 @@ import { say } from '../words.js';
 // A text of more lines or letters is long. (To select 10,000 lines and remove them takes a browser seconds.)
 const MOST_AREA_LINES = 3000;
 const MOST_AREA_LETTERS = 1 << 19;
+// So is one whose lines' letters have a greater sum of squares: so does the time grow that a browser takes for lines of combining letters.
+const MOST_AREA_SQUARES = 1e8;
 // The lines of its part before and after the caret, and the most letters of these.
 const LINES_BESIDE = 1000;
 const LETTERS_BESIDE = 50000;
@@ -36,10 +38,16 @@ export function wholeText() {
 
 /** @param {string} text */
 function isLong(text) {
-  let lines = 1;
-  for (let end = text.indexOf('\n'); end >= 0 && lines <= MOST_AREA_LINES; end = text.indexOf('\n', end + 1)) lines++;
-  return lines > MOST_AREA_LINES || text.length > MOST_AREA_LETTERS;
+  if (text.length > MOST_AREA_LETTERS) return true;
+  const lines = text.split('\n');
+  return lines.length > MOST_AREA_LINES || lines.reduce((sum, { length }) => sum + length ** 2, 0) > MOST_AREA_SQUARES;
 }
+
+/**
+ * Returns a text with line ends as an area has them. (A pattern takes seconds for millions of them.)
+ * @param {string} text
+ */
+export const withLineEnds = text => text.split('\r\n').join('\n').split('\r').join('\n');
 
 /**
  * Returns whether the area would show too much with another text at its caret.
@@ -51,13 +59,15 @@ export const isLongWith = added => isLong(element('text').value + added);
  * Returns the part of a text to show for a place: whole lines, if they aren't too long.
  * @param {string} text
  * @param {number} place
+ * @param {number} [most] its letters before and after the place
  * @returns {Span}
  */
-function partAround(text, place) {
+function partAround(text, place, most = LETTERS_BESIDE) {
   if (!isLong(text)) return { from: 0, to: text.length };
   const line = lineOf(text, place);
-  const from = Math.max(lineAt(text, Math.max(1, line - LINES_BESIDE)).from, place - LETTERS_BESIDE);
-  const to = Math.min(lineAt(text, line + LINES_BESIDE).to, place + LETTERS_BESIDE);
+  const from = Math.max(lineAt(text, Math.max(1, line - LINES_BESIDE)).from, place - most);
+  const to = Math.min(lineAt(text, line + LINES_BESIDE).to, place + most);
+  if (isLong(text.slice(from, to))) return partAround(text, place, most >> 1);
   const isInside = (/** @type {number} */ at) => /^[\udc00-\udfff]/.test(text.slice(at, at + 1));
   return { from: from - Number(isInside(from)), to: to + Number(isInside(to)) };
 }
@@ -100,7 +110,7 @@ export function showText(given) {
     showPart(given, { from: 0, to: given.length });
     return;
   }
-  const text = given.replace(/\r\n?/g, '\n');
+  const text = withLineEnds(given);
   const grown = text.length - areaText.text.length;
   const from = text === areaText.text ? areaText.from : sameLetters(areaText.text, text);
   const to = text === areaText.text ? from : text.length - sameEnd(areaText.text, text, from);
@@ -166,7 +176,7 @@ export function followCaret() {
   const { length } = wholeText();
   const { selectionStart, selectionEnd } = element('text');
   if (!isPart() || selectionStart !== selectionEnd) return;
-  const isNear = (/** @type {string} */ rest) => rest.length < LETTERS_BESIDE / 2 && rest.split('\n').length <= LINES_LEFT;
+  const isNear = (/** @type {string} */ rest) => rest.length < areaText.shown.length / 4 && rest.split('\n').length <= LINES_LEFT;
   const [above, below] = [areaText.shown.slice(0, selectionStart), areaText.shown.slice(selectionStart)];
   if ((areaText.from > 0 && isNear(above)) || (endOfPart() < length && isNear(below))) showAroundCaret();
 }

@@ -9,7 +9,7 @@ import {
   blockAt, blocksOf, cleared, fenOfBlock, lineOf, menOf, tailOf, withFen, withLine, withMen, withNewProblem, withTail,
 } from '../text.js';
 import { say } from '../words.js';
-import { fitPart, followCaret, scrollToLine, select, selectionNow, showText } from './area.js';
+import { fitPart, followCaret, scrollToLine, select, selectionNow, showText, withLineEnds } from './area.js';
 import { doChore } from './beside.js';
 import { unmarkFaults } from './faults.js';
 import { keepReplaced, storeNoText, storeText } from './keeping.js';
@@ -250,7 +250,7 @@ export function insertText(given) {
 export function insertLong(given) {
   endTyping();
   const { from, to } = selectionNow();
-  const before = textNow().slice(0, from) + given.replace(/\r\n?/g, '\n');
+  const before = textNow().slice(0, from) + withLineEnds(given);
   setText(before + textNow().slice(to));
   select(before.length, before.length);
   scrollToLine(lineOf(textNow(), before.length), 4);

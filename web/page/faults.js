@@ -4,7 +4,7 @@ import { element, madeWith, makeButton, partText } from '../elements.js';
 import { faultBox } from '../faults.js';
 import { isOfAnother } from '../importing.js';
 import { LONG_TEXT, Work } from '../slices.js';
-import { lineAt } from '../text.js';
+import { blocksOf, lineAt, lineOf, sameWordIn } from '../text.js';
 import { say } from '../words.js';
 import { lineTop, scrollToLine, select } from './area.js';
 import { doChore } from './beside.js';
@@ -67,13 +67,20 @@ function tryToConvert(text) {
   else doChore('import', { text }, made => end(Boolean(made?.text)), () => end(false));
 }
 
-/** @param {number} line */
-function goToLine(line) {
-  const { from, to } = lineAt(textNow(), line);
+/**
+ * Selects the line of a fault, wherever it is now; of a problem that was changed since, the first line.
+ * @param {FaultyItem} item
+ */
+const goToFault = ({ number, fault }) => state.whenRead(() => {
+  const [text, then, now] = [textNow(), state.solvedBlocks[number - 1], blocksOf(textNow())[number - 1]];
+  const isSame = then && now && state.isPosedNow(number);
+  const place = isSame ? sameWordIn(then, now, lineAt(state.solved, fault.line).from) : now?.from ?? 0;
+  const line = state.isSolved() ? fault.line : lineOf(text, place);
+  const { from, to } = lineAt(text, line);
   element('text').focus();
   select(from, to);
   scrollToLine(line, 4);
-}
+});
 
 /**
  * Sets what takes a corrected text, and what converts the text.
@@ -91,7 +98,7 @@ export function whenCorrected(take, convert) {
 export function drawnFault(item) {
   const general = JSON.parse(partText('fault-words'))[item.fault.number] ?? '';
   const placed = { ...item, place: state.places.get(item.number) };
-  const box = faultBox(state.solved, placed, general, { goToLine, take: made => corrected.take(made) }, faultWork);
+  const box = faultBox(state.solved, placed, general, { goToLine: () => goToFault(item), take: made => corrected.take(made) }, faultWork);
   whenConvertible(state.solved, () => box.append(makeButton(say('convert'), () => corrected.convert())));
   return box;
 }

@@ -112,7 +112,7 @@ const firstOf = all => [...all.slice(0, MOST_SAID), ...(all.length > MOST_SAID ?
  * Returns whether a text from elsewhere is too long, and says so.
  * @param {number} length
  */
-function isTooLong(length) {
+export function isTooLong(length) {
   if (length > MOST_FILE_BYTES) note(say('textLong'));
   return length > MOST_FILE_BYTES;
 }
@@ -159,6 +159,14 @@ function takePasted(event, text, isText) {
   else if (isText && isLongWith(text)) insertLong(text);
   else return;
   event.preventDefault();
+}
+
+/**
+ * Refuses what is typed if the text would be too long.
+ * @param {InputEvent} event
+ */
+function beforeTyped(event) {
+  if (event.inputType.startsWith('insert') && isTooLong(lengthBesideSelection() + (event.data?.length ?? 1))) event.preventDefault();
 }
 
 /** Returns how many letters stay in the text where what is selected is replaced. */
@@ -222,4 +230,5 @@ export function listenToFiles() {
   addEventListener('dragleave', () => document.body.classList.remove('dropping'));
   addEventListener('drop', dropped);
   addEventListener('paste', event => pasted(/** @type {ClipboardEvent} */ (event)));
+  element('text').addEventListener('beforeinput', beforeTyped);
 }

@@ -129,11 +129,11 @@ export function showSolve() {
 const settingsNow = () => ({ check: element('check').checked, refutations: mostRefutations() });
 
 /**
- * Returns how solving stands: whether it can begin, whether a change began it, how many milliseconds the last search took, and whether
- * it had the settings of now.
+ * Returns how solving stands: whether it can begin, whether a change or a button began it, how many milliseconds the last search took,
+ * and whether it had the settings of now.
  */
 export const solvingNow = () => ({
-  isReady: Boolean(run.engine) && !run.solving, isLive: Boolean(run.solving) && run.isLive, last: run.last,
+  isReady: Boolean(run.engine) && !run.solving, isLive: Boolean(run.solving) && run.isLive, isAsked: Boolean(run.solving) && !run.isLive, last: run.last,
   isAsNow: run.asked === JSON.stringify(settingsNow()),
 });
 

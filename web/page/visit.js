@@ -7,8 +7,10 @@ import { latestSteps, MOST_KEPT_LETTERS, textOfFragment, visitOf, writtenVisit }
 import { NEW_PROBLEM, withFen } from '../text.js';
 import { language, say } from '../words.js';
 import { endTyping, keepText, takeText } from './editing.js';
+import { isTooLong } from './files.js';
 import { exampleText, isNobodys, keepProblem, storedByTab, unkeptText } from './keeping.js';
 import { drawReport } from './reporting.js';
+import { solvingNow } from './solving.js';
 import { state, textNow } from './state.js';
 import { keep, keepInTab, kept, keptInTab } from './storage.js';
 import { note } from './views.js';
@@ -83,13 +85,13 @@ export function textSaved() {
 }
 
 /**
- * Asks whether to leave the page, if a text would be lost that isn't saved as a file.
+ * Asks whether to leave the page, if a search would end, or a text would be lost that isn't saved as a file.
  * @param {BeforeUnloadEvent} event
  */
 export function askToStay(event) {
   const isKept = storeVisit() || isNobodys(textNow()) || textNow() === savedText;
   const replaced = unkeptText();
-  if (isKept && (!replaced || replaced === savedText || latestSteps(state.steps).texts.includes(replaced))) return;
+  if (!solvingNow().isAsked && isKept && (!replaced || replaced === savedText || latestSteps(state.steps).texts.includes(replaced))) return;
   event.preventDefault();
   // (Chrome before 119 asks only so)
   event.returnValue = true;
@@ -120,7 +122,7 @@ export function openLink() {
   const linked = textOfFragment(location.hash);
   if (location.hash === link) return;
   link = location.hash;
-  if (linked === null || linked === textNow()) return;
+  if (linked === null || linked === textNow() || isTooLong(linked.length)) return;
   const fen = readFen(linked);
   takeText(fen ? withFen(NEW_PROBLEM, 0, fen) : linked);
   keepProblem(textNow(), { isLinked: true });
