@@ -53,9 +53,19 @@ def _started_by(process: int) -> list[Path]:
     return [folder for folder in folders if _fields(folder)[1:2] == [wanted]]
 
 
+def _words(folder: Path) -> bytes:
+    """The words of a process; nothing where it has ended."""
+    try:
+        return (folder / "cmdline").read_bytes()
+    except OSError:
+        return b""
+
+
 def children(process: int) -> list[int]:
-    """The processes that a process started, but for watchers."""
-    return [int(it.name) for it in _started_by(process) if not _is_watcher(it)]
+    """The programs that a process started and that run, but for watchers."""
+    # (what was started has the words of its parent until it becomes a program)
+    none = (b"", _words(Path(f"/proc/{process}")))
+    return [int(it.name) for it in _started_by(process) if _words(it) not in none and not _is_watcher(it)]
 
 
 def watchers(process: int) -> list[int]:
@@ -64,10 +74,7 @@ def watchers(process: int) -> list[int]:
 
 
 def _is_watcher(folder: Path) -> bool:
-    try:
-        return os.fsencode(sessions.__file__) in (folder / "cmdline").read_bytes()
-    except OSError:
-        return False
+    return os.fsencode(sessions.__file__) in _words(folder)
 
 
 def has_worked(process: int) -> bool:
@@ -129,14 +136,19 @@ class SixProblems(support.InRoom):
     def ended(self, run: "subprocess.Popen[bytes]") -> None:
         if run.poll() is None:
             for child in children(run.pid):
-                os.killpg(child, signal.SIGKILL)
+                sessions.end(child)
             run.kill()
         run.communicate()
 
     def programs(self, run: "subprocess.Popen[bytes]", number: int) -> list[int]:
         """The programs that a run of pops-many has at work, once there are as many as wanted."""
-        wait_for(lambda: len(children(run.pid)) == number)
-        found = children(run.pid)
+        found: list[int] = []
+
+        def are_there() -> bool:
+            found[:] = children(run.pid)
+            return len(found) == number
+
+        wait_for(are_there)
         for program in found:
             self.addCleanup(sessions.end, program)
         return found

@@ -24,7 +24,7 @@ from tests.six_problems import wait_for, watchers
 from tests.test_bundles import MATE, input_of, tasks
 
 # Leaves its session, its environment and the program that started it; its number is in a file.
-_LEAVES = "env -i setsid sleep 1800 & echo $! > '{noted}'; {end}"
+_LEAVES = "env -i setsid sleep 9000 & echo $! > '{noted}'; {end}"
 # Runs a program until it is killed.
 _RUNS = """
 import subprocess, sys
@@ -59,7 +59,7 @@ except KeyboardInterrupt:
     sys.exit(7)
 """
 # A process group of its own, that `timeout` makes.
-_GROUP = "timeout 1800 sleep 1800"
+_GROUP = "timeout 9000 sleep 9000"
 
 
 class Linked(support.InRoom):
@@ -117,7 +117,7 @@ class Ended(support.InRoom):
             self.assertEqual(sessions.members(child.run.pid), [])
 
     def test_no_shell_goes_on_when_its_child_is_killed(self) -> None:
-        shells = f"(sleep 1800; touch '{self.room}/went_on') &" * 8
+        shells = f"(sleep 9000; touch '{self.room}/went_on') &" * 8
         child = self.begun(f"{shells} wait", as_script=False)
         wait_for(lambda: len(sessions.members(child.run.pid)) == 1 + 2 * 8)
 
@@ -137,7 +137,7 @@ class Ended(support.InRoom):
         for end in ("exit 0", "wait"):
             with self.subTest(end):
                 noted = self.room / f"noted {end}"
-                child = self.begun(f"echo well; setsid sleep 1800 & echo $! > '{noted}'; {end}", True)
+                child = self.begun(f"echo well; setsid sleep 9000 & echo $! > '{noted}'; {end}", True)
                 wait_for(lambda noted=noted: noted.is_file() and noted.read_bytes().endswith(b"\n"))  # type: ignore[misc]
                 stranger = int(noted.read_bytes())
                 self.addCleanup(sessions.end, stranger)
@@ -174,7 +174,7 @@ class Ended(support.InRoom):
     def test_a_program_that_begins_as_the_companion_is_killed(self) -> None:
         noted = self.room / "noted"
         closed = " ".join(f"{it}>&-" for it in range(3, 10))
-        text = f"env -i sh -c 'exec sleep 1800 {closed}' & echo $$ > '{noted}'; wait"
+        text = f"env -i sh -c 'exec sleep 9000 {closed}' & echo $$ > '{noted}.new'; mv '{noted}.new' '{noted}'; wait"
         program = self.write_program("program", f"#!/bin/sh\n{text}\n")
         words = [sys.executable, "-c", _DIES, program, str(noted)]
         self.assertEqual(subprocess.run(words, cwd=support.COMPANIONS).returncode, -signal.SIGKILL)
@@ -195,7 +195,7 @@ class Ended(support.InRoom):
             self.noted(self.room / "noted")
             raise KeyboardInterrupt
 
-        text = f"sleep 1800 & echo $$ > '{self.room}/new'; mv '{self.room}/new' '{self.room}/noted'; wait"
+        text = f"sleep 9000 & echo $$ > '{self.room}/new'; mv '{self.room}/new' '{self.room}/noted'; wait"
         program = self.write_program("program", f"#!/bin/sh\n{text}\n")
         start = "pops_companions.many.child_process."
         for name, instead in (("killed_with_holder", hold), ("subprocess.Popen", interrupted)):
@@ -227,7 +227,7 @@ class Ended(support.InRoom):
     def test_what_a_companion_starts_meanwhile_stays(self) -> None:
         """It holds the pipe for the moment before it becomes another program."""
         reading, writing = os.pipe()
-        child = subprocess.Popen(["sleep", "1800"], pass_fds=(reading,))
+        child = subprocess.Popen(["sleep", "9000"], pass_fds=(reading,))
         self.addCleanup(child.communicate)
         self.addCleanup(child.kill)
         sessions.end(0, pipe=sessions.name_of_pipe(reading))
@@ -238,7 +238,7 @@ class Ended(support.InRoom):
     def test_a_process_that_closes_files_meanwhile(self) -> None:
         """It holds the pipe still, although the first of its files is gone when it is looked at."""
         reading, writing = os.pipe()
-        child = subprocess.Popen(["sh", "-c", "sleep 1800 & wait"], pass_fds=(reading,), start_new_session=True)
+        child = subprocess.Popen(["sh", "-c", "sleep 9000 & wait"], pass_fds=(reading,), start_new_session=True)
         self.addCleanup(child.communicate)
         self.addCleanup(sessions.end, child.pid)
         wait_for(lambda: len(sessions.members(child.pid)) == 2)
@@ -265,7 +265,7 @@ class Ended(support.InRoom):
             self.assertEqual(Runs("pops", [support.pops()]).outcome([], b"").status, 1)
         self.assertFalse((self.room / "begun").exists())
         with mock.patch("os.listdir", side_effect=FileNotFoundError):
-            child = self.begun("exec sleep 1800", as_script=False)
+            child = self.begun("exec sleep 9000", as_script=False)
             child.end()
         self.assertEqual(child.run.returncode, -signal.SIGKILL)
 

@@ -2,6 +2,7 @@
 
 import errno
 import os
+import re
 import runpy
 import signal
 import subprocess
@@ -63,7 +64,7 @@ OVERWRITING = (
     ("pops-judge", "@input", "-o", "@input"),
     ("pops-many", "@input", "-o", "@input"),
     ("pops-page", "--input", "@input", "@report", "-o", "@input"),
-    ("pops-sheet", "@input", "-o", "@input"),
+    ("pops-sheet", "@input", "--seconds", "0", "-o", "@input"),
     ("pops-test", "@report", "-o", "@report"),
     ("pops2json", "@report", "-o", "@report"),
 )
@@ -209,7 +210,9 @@ class Streams(unittest.TestCase):
             others = [it.replace("%", str(output.fileno())) for it in others]
             done = subprocess.run([*program, *others], stdout=output, stderr=subprocess.PIPE, check=False)
         self.assertEqual({it.name for it in room.iterdir()}, {"input", "report", "positions", "log", "link"})
-        return done.returncode, done.stderr, log.read_bytes()
+        # (on a busy machine pops-many tells how far it is)
+        errors = re.sub(rb"(?m)^pops-many: .* first moves.*\n", b"", done.stderr)
+        return done.returncode, errors, log.read_bytes()
 
     def test_an_output_that_is_open_is_written_on(self) -> None:
         kept = {"input": PROBLEM, "report": OF_THE_PROBLEM, "positions": POSITIONS[:80]}
@@ -249,7 +252,7 @@ class Streams(unittest.TestCase):
         report = support.run([support.pops()], latin).output
         for companion, *words in (
             ("pops-page", "@report"),
-            ("pops-sheet", "@input"),
+            ("pops-sheet", "@input", "--seconds", "0"),
             ("pops-find", "@data", "--add", "@input"),
             ("pops-test", "@none"),
         ):

@@ -10,6 +10,7 @@ from pops_companions.commands.many import name_of_run
 from pops_companions.many.joining import Joined
 from pops_companions.many.targets import Target
 from tests import run_here, support
+from tests.shown_limit import limit_when_shown, shown
 from tests.six_problems import SIX, SixProblems
 
 FAULTY = b"BeginProblem\nPieces White Kg6\n\n\nNextProblem\nPieces White Ka1 x\nEndProblem\n"
@@ -192,9 +193,10 @@ class Several(SixProblems):
         odd = self.room / "a\\b\nc\td"
         odd.write_bytes(SIX)
         words = ["--seconds", "1", "--jobs", "1", "-o", str(self.report), str(odd)]
-        slow = self.stand_in("cat > /dev/null; printf 'problem 1\\n'; exec sleep 6000")
+        slow = self.stand_in(f"printf 'problem 1\\n'; {shown(self.room)}; exec sleep 6000")
         for _ in range(2):
-            self.assertEqual(support.companion("pops-many", "--pops", slow, *words).status, 6)
+            with limit_when_shown(self.room):
+                self.assertEqual(run_here.companion("pops-many", "--pops", slow, *words).status, 6)
             rest = Path(f"{self.report}.unfinished")
             mark = rest.read_bytes().splitlines()[1]
             name = str(odd).replace("\\", r"\\").replace("\n", r"\n").replace("\t", r"\t")

@@ -188,7 +188,8 @@ class Wheel(unittest.TestCase):
             said = self.said(room, commands / "python", "-c", asked)
             self.assertEqual(said, f"{commands}/pops {commands}/pops-tries\n")
             self.assertIn("none faulty", self.said(room, commands / "pops-explain", str(MATE)))
-            made_parts = self.said(room, commands / "pops-many", "--split", str(MATE))
+            # (also on a busy machine it isn't cut, which is told where it takes long)
+            made_parts = self.said(room, commands / "pops-many", "--split", "--split-after", "3600", str(MATE))
             self.assertEqual(made_parts, report)
 
     def said(self, room: str, *words: Union[str, Path]) -> str:
