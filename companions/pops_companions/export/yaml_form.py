@@ -149,18 +149,22 @@ def _remarks(fields: Fields) -> Iterator[str]:
     comments = list(fields.comments)
     numbers = [place for place, text in enumerate(comments) if _WANTED.fullmatch(text)]
     if numbers:
-        text = wanted = comments.pop(numbers[-1]).partition(" ")[2]
-        # (2.1 says more than the number that it stands for)
-        for said in filter(None, map(_SAID.fullmatch, comments)):
-            if wanted_of(said[1]) == int(wanted):
-                text = said[1]
-                comments.remove(said[0])
-                break
+        wanted = comments[numbers[-1]].partition(" ")[2]
+        said = [place for place, text in enumerate(comments) if _says(text, wanted)][:1]
+        text = comments[said[0]].partition(" ")[2] if said else wanted
+        left_out = [numbers[-1], *said]
+        comments = [it for place, it in enumerate(comments) if place not in left_out]
         yield f"{_INTENDED}: {_scalar(text)}"
     for key, value in fields.keys.items():
         yield from _field(key, value)
     if comments:
         yield from _list("comments", comments)
+
+
+def _says(text: str, wanted: str) -> bool:
+    """Whether a Remark says more, as 2.1 does, than the number that it stands for."""
+    said = _SAID.fullmatch(text)
+    return said is not None and wanted_of(said[1]) == int(wanted)
 
 
 def _solution(one: Exported, items: Mapping[int, SoundItem]) -> Iterator[str]:
