@@ -110,7 +110,7 @@ def items_with_unfinished(
         fits, items = _fit((item.number for item in whole), more), iter(whole)
     if fits:
         more.sort(key=lambda item: item.number)
-        return merge(items, more, key=lambda item: item.number)
+        return iter(merge(items, more, key=lambda item: item.number))
     if named:
         message = (
             f"--unfinished isn't of {name}: both have a problem, or a file holds several reports"
