@@ -210,7 +210,7 @@ class Streams(unittest.TestCase):
             others = [it.replace("%", str(output.fileno())) for it in others]
             done = subprocess.run([*program, *others], stdout=output, stderr=subprocess.PIPE, check=False)
         self.assertEqual({it.name for it in room.iterdir()}, {"input", "report", "positions", "log", "link"})
-        # (on a busy machine pops-many tells how far it is)
+        # (on a busy machine pops-many shows how far it is)
         errors = re.sub(rb"(?m)^pops-many: .* first moves.*\n", b"", done.stderr)
         return done.returncode, errors, log.read_bytes()
 

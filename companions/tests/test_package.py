@@ -188,7 +188,7 @@ class Wheel(unittest.TestCase):
             said = self.said(room, commands / "python", "-c", asked)
             self.assertEqual(said, f"{commands}/pops {commands}/pops-tries\n")
             self.assertIn("none faulty", self.said(room, commands / "pops-explain", str(MATE)))
-            # (also on a busy machine it isn't cut, which is told where it takes long)
+            # (one that is cut shows its progress, if the machine is busy)
             made_parts = self.said(room, commands / "pops-many", "--split", "--split-after", "3600", str(MATE))
             self.assertEqual(made_parts, report)
 

@@ -8,7 +8,7 @@ import { say } from '../words.js';
 // A text of more lines or letters is long. (To select 10,000 lines and remove them takes a browser seconds.)
 const MOST_AREA_LINES = 3000;
 const MOST_AREA_LETTERS = 1 << 19;
-// So is one whose lines' letters have a greater sum of squares: so does the time grow that a browser takes for lines of combining letters.
+// So is one where the squares of its lines' lengths have a greater sum, like the time of a browser for lines of combining letters.
 const MOST_AREA_SQUARES = 1e8;
 // The lines of its part before and after the caret, and the most letters of these.
 const LINES_BESIDE = 1000;
