@@ -8,7 +8,7 @@ import { say } from '../words.js';
 // A text of more lines or letters is long. (To select 10,000 lines and remove them takes a browser seconds.)
 const MOST_AREA_LINES = 3000;
 const MOST_AREA_LETTERS = 1 << 19;
-// So is one where the squares of its lines' lengths have a greater sum, like the time of a browser for lines of combining letters.
+// The most that the squares of its lines' lengths may add up to: a browser's time for combining letters grows like this sum.
 const MOST_AREA_SQUARES = 1e8;
 // The lines of its part before and after the caret, and the most letters of these.
 const LINES_BESIDE = 1000;
