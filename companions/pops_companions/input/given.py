@@ -13,7 +13,7 @@ from pops_companions.input.words import TextLine, Word, is_short_for, named
 LONGEST_TEXT = 200
 _BLANKS = b" \t\v\f\r"
 _WANTED = re.compile(
-    rb"\s*(?:solutions?\s*:?\s*([0-9]{1,9})|([0-9]{1,9})\s+solutions?)\s*\.?\s*", re.IGNORECASE
+    rb"(?:solutions?\s*(?::\s*)?([0-9]{1,9})|([0-9]{1,9})\s+solutions?)(?:\s*\.)?", re.IGNORECASE
 )
 
 
@@ -97,7 +97,7 @@ class GivenProblem:
         """The number of solutions that a Remark asks for, as `Remark solutions 2`; the last one."""
         wanted = None
         for remark in self.remarks:
-            parts = _WANTED.fullmatch(remark)
+            parts = _WANTED.fullmatch(remark.strip())
             if parts is not None:
                 wanted = int(parts[1] or parts[2])
         return wanted
