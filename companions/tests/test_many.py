@@ -291,6 +291,16 @@ class Interruptions(SixProblems):
         self.assertEqual(self.many(self.stand_in(":"), "--resume"), (0, b"", ""))
         self.assertEqual(self.report.read_bytes(), self.wanted)
 
+    def test_a_journal_that_is_changed_in_use_makes_no_report(self) -> None:
+        for change in (": >", "printf x | dd conv=notrunc status=none bs=1 seek=200 of="):
+            with self.subTest(change):
+                self.report.write_bytes(b"an old report")
+                outcome = self.many(self.stand_in(f"{change}{self.journal}"))
+                said = f"pops-many: {self.journal} was changed while it was in use: remove it\n"
+                self.assertEqual(outcome, (6, b"", said))
+                self.assertEqual(self.report.read_bytes(), b"an old report")
+                self.journal.unlink()
+
     def test_a_changed_digit_in_the_line_of_a_record_is_noticed(self) -> None:
         self.many(self.stand_in("kill -9 $$"))
         journal = self.journal.read_bytes()

@@ -21,7 +21,7 @@ from pops_companions.commands.many_options import (
 from pops_companions.files import Links
 from pops_companions.many.identity import Known
 from pops_companions.many.joining import Joined, Report, path_of_report, write_index
-from pops_companions.many.journal import Journal, Origin, fingerprint
+from pops_companions.many.journal import DamagedError, Journal, Origin, fingerprint
 from pops_companions.many.program import MissingError, Program, find, find_part_program
 from pops_companions.many.progress import Progress
 from pops_companions.many.running import Elsewhere, Programs, Run
@@ -289,6 +289,10 @@ class Solving:
             self._progress.end()
             with suppress(OSError):
                 journal.spoil()
+            journal.close(kept=True)
+            raise
+        except DamagedError:
+            self._progress.end()
             journal.close(kept=True)
             raise
 

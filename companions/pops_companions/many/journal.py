@@ -50,14 +50,33 @@ class JournalError(CommandError):
         super().__init__(Status.USAGE, message)
 
 
+class DamagedError(CommandError):
+    """A journal that somebody else changed while it was in use."""
+
+    def __init__(self, path: str):
+        super().__init__(Status.UNFINISHED, f"{path} was changed while it was in use: remove it")
+
+
+class Record(NamedTuple):
+    """Where a report is in the journal, and how long its line before it is."""
+
+    start: int
+    length: int
+    line: int
+
+
 class Kept(NamedTuple):
-    """Where a report is in the journal, of how many tasks, and the seconds of an unfinished problem."""
+    """A report in the journal, of how many tasks, and the seconds of an unfinished problem."""
 
     status: int
     seconds: Optional[float]
-    start: int
-    length: int
+    record: Record
     tasks: int = 1
+
+    @property
+    def length(self) -> int:
+        """The bytes of the report."""
+        return self.record.length
 
 
 class Origin(NamedTuple):
@@ -96,6 +115,10 @@ def _with_sum(head: bytes, report: Iterable[_Report]) -> bytes:
     total = zlib.crc32(head)
     for piece in report:
         total = zlib.crc32(piece, total)
+    return _line_of(head, total)
+
+
+def _line_of(head: bytes, total: int) -> bytes:
     return b"%s%s%d\n" % (head, _SUM, total)
 
 
@@ -211,18 +234,19 @@ class Journal:
         if line != _with_sum(head, self._pieces(start, length)):
             return False
         self._file.seek(start + length)
+        at = Record(start, length, len(line))
         if of_tasks:
             place, number, status, seconds, _ = of_tasks.groups()
             if number and not _has_items(b"".join(self._pieces(start, length)), int(number)):
                 return False
             had = float(seconds) if seconds else None
-            return self._note(int(place), Kept(int(status), had, start, length, int(number or 1)))
+            return self._note(int(place), Kept(int(status), had, at, int(number or 1)))
         if of_part:
             from pops_companions.many.parts import Key
 
             phase = of_part[2].decode("ascii")
             key = Key(int(of_part[1]), phase, int(of_part[3]), int(of_part[4]))
-            self.parts[key] = Kept(0, None, start, length)
+            self.parts[key] = Kept(0, None, at)
         if of_program:
             self._programs[of_program[1]] = of_program[2]
         return True
@@ -252,8 +276,8 @@ class Journal:
         of = b"tasks %d number %d" % (place, result.tasks) if result.tasks > 1 else b"task %d" % place
         seconds = b"" if result.seconds is None else b" seconds %f" % result.seconds
         head = b"%s status %d%s" % (of, result.status, seconds)
-        start, length = self._add(head, report)
-        self._note(place, Kept(result.status, result.seconds, start, length, result.tasks))
+        at = self._add(head, report)
+        self._note(place, Kept(result.status, result.seconds, at, result.tasks))
         if result.spooled is not None:
             result.spooled.close()
 
@@ -262,7 +286,7 @@ class Journal:
         self.refuse()
         place, phase, number, depth = part.key
         head = b"part %d %s %d depth %d" % (place, phase.encode("ascii"), number, depth)
-        self.parts[part.key] = Kept(0, None, *self._add(head, [report]))
+        self.parts[part.key] = Kept(0, None, self._add(head, [report]))
 
     def is_from(self, name: str, program: str) -> bool:
         """Returns whether a program is the one that the run had by this name, and notes a new one."""
@@ -276,8 +300,8 @@ class Journal:
         """Notes that reports may be of two programs: no run goes on with them."""
         self.is_from(_CHANGED, "")
 
-    def _add(self, head: bytes, report: list[_Report]) -> tuple[int, int]:
-        """Writes a record; returns where its report is, and its length."""
+    def _add(self, head: bytes, report: list[_Report]) -> Record:
+        """Writes a record; returns where its report is."""
         length = sum(map(len, report))
         head = _with_sum(b"%s bytes %d" % (head, length), report)
         end = self._end
@@ -287,12 +311,11 @@ class Journal:
                 written = os.pwrite(self._file.fileno(), left, end)
                 left, end = left[written:], end + written
         self._end = end
-        return end - length, length
+        return Record(end - length, length, len(head))
 
     def pieces(self, place: int) -> Iterator[bytes]:
         """Yields the kept report of a task, with the tasks that share its record."""
-        kept = self.kept[place]
-        return self._pieces(kept.start, kept.length)
+        return self._unchanged(self.kept[place].record)
 
     def report(self, place: int) -> bytes:
         """Returns the kept report of a task, with the tasks that share its record."""
@@ -300,8 +323,18 @@ class Journal:
 
     def part(self, part: "Part") -> bytes:
         """Returns the kept report of a part."""
-        kept = self.parts[part.key]
-        return b"".join(self._pieces(kept.start, kept.length))
+        return b"".join(self._unchanged(self.parts[part.key].record))
+
+    def _unchanged(self, record: Record) -> Iterator[bytes]:
+        """Yields a report. DamagedError at the end if the record isn't what was written."""
+        line = os.pread(self._file.fileno(), record.line, record.start - record.line)
+        head = line.rpartition(_SUM)[0]
+        total = zlib.crc32(head)
+        for piece in self._pieces(record.start, record.length):
+            total = zlib.crc32(piece, total)
+            yield piece
+        if line != _line_of(head, total):
+            raise DamagedError(self.path)
 
     def _pieces(self, place: int, length: int) -> Iterator[bytes]:
         end = place + length
