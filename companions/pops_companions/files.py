@@ -139,8 +139,15 @@ def try_out(
     name = unfinished or unfinished_name(real)
     _kept(real)
     remove(name)
-    os.close(os.open(name, _NEW, 0o600))
-    os.unlink(name)
+    try:
+        os.close(os.open(name, _NEW, 0o600))
+        os.unlink(name)
+    except OSError:
+        raise
+    except BaseException:
+        # (a signal came between the two)
+        remove(name)
+        raise
 
 
 def remove(path: str) -> None:

@@ -2,6 +2,7 @@
 
 import os
 import random
+import struct
 import sys
 import tempfile
 import threading
@@ -565,6 +566,28 @@ class Command(support.InRoom):
                         self.assertIn(why, outcome.error)
                         self.assertTrue(os.path.lexists(name))
                 os.unlink(name)
+        self.assertEqual(target.read_bytes(), b"others")
+
+    def test_a_statement_that_is_not_utf_8(self) -> None:
+        self.added("morphy_1856.pop")
+        text = Path(self.path).read_bytes().replace(b"CREATE TABLE problems", b"CREATE \xffABLE problems")
+        Path(self.path).write_bytes(text)
+        outcome = self.run_on("--author", "x")
+        said = f"pops-find: cannot read {self.path}: it is damaged\n"
+        self.assertEqual(outcome, (3, b"", said))
+
+    def test_a_journal_that_names_another_file(self) -> None:
+        self.added("morphy_1856.pop")
+        target = self.room / "target"
+        target.write_bytes(b"others")
+        name, mark = os.fsencode(target), b"\xd9\xd5\x05\xf9\x20\xa1\x63\xd7"
+        head = (mark + struct.pack(">5I", 0, 1, 5, 512, 4096)).ljust(512, b"\0")
+        place = struct.pack(">I", (1 << 30) // 4096 + 1)
+        ending = place + name + struct.pack(">2I", len(name), sum(name)) + mark
+        Path(self.path + "-journal").write_bytes(head + ending)
+        outcome = self.run_on("--author", "x")
+        self.assertEqual((outcome.status, outcome.output), (3, b""))
+        self.assertIn("isn't of one collection", outcome.error)
         self.assertEqual(target.read_bytes(), b"others")
 
     def test_a_collection_that_is_no_file(self) -> None:

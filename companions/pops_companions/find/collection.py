@@ -58,9 +58,10 @@ _STEPS_AT_ONCE = 100_000
 _LEAST_STEPS, _STEPS_OF_A_BYTE, _STEPS_OF_AN_ENTRY = 1_000_000, 20, 10_000
 # The seconds that a run waits for another that writes: at a time, and at most.
 _SECONDS_AT_ONCE, _MOST_SECONDS = 1, 600
+_JOURNAL = b"\xd9\xd5\x05\xf9\x20\xa1\x63\xd7"
 # What SQLite's files beside a collection begin with, by what their names end in.
 _BESIDE = {
-    "-journal": (b"\xd9\xd5\x05\xf9\x20\xa1\x63\xd7",),
+    "-journal": (_JOURNAL,),
     "-wal": (b"\x37\x7f\x06\x82", b"\x37\x7f\x06\x83"),
     "-shm": (b"\x18\xe2\x2d\x00", b"\x00\x2d\xe2\x18"),
 }
@@ -355,9 +356,14 @@ def _refuse_foreign(path: str) -> None:
         with os.fdopen(handle, "rb") as file:
             is_file = stat.S_ISREG(os.fstat(handle).st_mode)
             head = file.read(len(heads[0])) if is_file else b""
+            is_journal = head == _JOURNAL
+            tail = file.read() if is_journal and file.seek(-len(head), os.SEEK_END) else b""
         # (it begins with zeros while it is written)
         if not is_file or any(head) and head not in heads:
             raise CollectionError(f"{name} isn't a file of SQLite: move it away")
+        # (so ends one that names a file of several collections, which SQLite then removes)
+        if tail == _JOURNAL:
+            raise CollectionError(f"{name} isn't of one collection: move it away")
 
 
 def _uri(path: str) -> str:
