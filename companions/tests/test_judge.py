@@ -274,8 +274,7 @@ class Judging(support.InRoom):
         self.assertEqual(foreign.read_bytes(), b"ours")
 
     def test_reports_and_tries_that_are_cut_are_made_again(self) -> None:
-        tries = self.script("tries", f"cat > /dev/null\nprintf '{TRIES_OF_ONE}'\n")
-        words = ("--pops-tries", tries)
+        words = ("--pops-tries", self.tries_of_one())
         work = self.unfinished(*words)
         for name in ("tries-1.txt", "solutions.report", "solutions.report.unfinished"):
             (work / name).write_bytes((work / name).read_bytes()[:50])
@@ -283,8 +282,42 @@ class Judging(support.InRoom):
         (article,) = self.articles()
         self.assertIn("1.Ra8#!", article.words)
 
+    def tries_of_one(self) -> str:
+        return self.script("tries", f"cat > /dev/null\nprintf '{TRIES_OF_ONE}'\n")
+
+    def begun_folder(self) -> WorkFolder:
+        folder = WorkFolder(self.room / "work")
+        folder.begin(b"", {}, resume=False)
+        return folder
+
+    def test_a_folder_that_is_moved_while_it_is_in_use(self) -> None:
+        work, foreign = self.room / "sheet.html.work", self.room / "foreign"
+        foreign.mkdir()
+        moves = f"mv '{work}' '{work}.moved'\nln -s '{foreign}' '{work}'\n"
+        for name, words in (("pops", ()), ("pops-tries", ("--pops-tries",))):
+            with self.subTest(name):
+                path = support.pops() if name == "pops" else self.tries_of_one()
+                moving = self.script("moving", f"{moves}exec '{path}' \"$@\"\n")
+                outcome = self.judged(*words, moving) if words else self.judged(pops=moving)
+                self.assertEqual(outcome.status, 6)
+                self.assertIn("sheet.html.work was moved or replaced while it was in use", outcome.error)
+                self.assertEqual(list(foreign.iterdir()), [])
+                work.unlink()
+                Path(f"{work}.moved").rename(self.room / f"moved by {name}")
+
+    def test_a_kept_text_in_whose_place_a_pipe_or_link_stands(self) -> None:
+        folder, text = self.begun_folder(), b"a text\n"
+        path, target = folder.path / "tries-1.txt", self.room / "target"
+        folder.keep(path, text)
+        path.rename(target)
+        for make in (lambda: os.mkfifo(path), lambda: path.symlink_to(target)):
+            make()
+            self.assertIsNone(folder.kept(path))
+            path.unlink()
+
     def test_a_kept_text_is_whole(self) -> None:
-        folder, path = WorkFolder(self.room), self.room / "tries-1.txt"
+        folder = self.begun_folder()
+        path = folder.path / "tries-1.txt"
         self.assertIsNone(folder.kept(path))
         folder.keep(path, b"a text\n" * 3)
         self.assertEqual(folder.kept(path), b"a text\n" * 3)
@@ -294,7 +327,8 @@ class Judging(support.InRoom):
             self.assertIsNone(folder.kept(path))
 
     def test_files_that_grew_larger_than_memory(self) -> None:
-        folder, path, report = WorkFolder(self.room), self.room / "tries-1.txt", self.room / "short.report"
+        folder = self.begun_folder()
+        path, report = folder.path / "tries-1.txt", folder.path / "short.report"
         folder.keep(path, b"")
         report.write_bytes(b"a report\n")
         folder.seal(report)
@@ -307,11 +341,12 @@ class Judging(support.InRoom):
         self.assertIn("has a mark that was changed", self.judged("--resume").error)
 
     def test_what_is_kept_for_one_problem_is_not_taken_for_another(self) -> None:
-        folder, first, second = WorkFolder(self.room), self.room / "tries-1.txt", self.room / "tries-2.txt"
+        folder = self.begun_folder()
+        first, second = folder.path / "tries-1.txt", folder.path / "tries-2.txt"
         folder.keep(first, b"a text\n")
         first.rename(second)
         self.assertIsNone(folder.kept(second))
-        solutions, short = self.room / "solutions.report", self.room / "short.report"
+        solutions, short = folder.path / "solutions.report", folder.path / "short.report"
         solutions.write_bytes(b"a report\n")
         folder.seal(solutions)
         self.assertTrue(folder.is_sealed(solutions))

@@ -3,7 +3,7 @@
 import hashlib
 import os
 import sys
-from collections.abc import Sequence
+from collections.abc import Callable, Sequence
 from contextlib import ExitStack, suppress
 from itertools import chain
 from typing import TYPE_CHECKING, BinaryIO, Optional, Union
@@ -230,9 +230,12 @@ def elsewhere_of(
 class Solving:
     """A run on what the command line asks for."""
 
-    def __init__(self, settings: Settings, known: Sequence[Known] = ()):
-        """Reads the inputs and finds the programs, of which some may be known already."""
-        self._settings = settings
+    def __init__(self, settings: Settings, known: Sequence[Known], refuse: Callable[[], None]):
+        """Reads the inputs and finds the programs, of which some may be known already.
+
+        `refuse` raises what keeps the run from writing.
+        """
+        self._settings, self._refuse = settings, refuse
         self._options = ["--check"] * settings.check + ["--no-board"] * settings.no_board
         self._progress = Progress(NAME)
         sources = [read_source(it, self._progress) for it in command.inputs_of(settings.files)]
@@ -298,6 +301,7 @@ class Solving:
 
     def _refuse_changed(self, journal: Journal, elsewhere: Optional[Elsewhere] = None) -> None:
         """Ends the run where one of its programs was changed meanwhile, here or on another machine."""
+        self._refuse()
         changed = next((it.program for it in self._known if it.is_changed), None)
         if changed is None and elsewhere is not None:
             changed = elsewhere.machines.changed()
@@ -370,9 +374,14 @@ def known_of(program: Union[Program, "PartProgram"], known: Sequence[Known]) -> 
     return found
 
 
-def solve(settings: Settings, output: BinaryIO, known: Sequence[Known] = ()) -> int:
+def solve(
+    settings: Settings,
+    output: BinaryIO,
+    known: Sequence[Known] = (),
+    refuse: Callable[[], None] = lambda: None,
+) -> int:
     """Runs all that the command line asks for; returns the exit status of the runs of pops."""
-    return Solving(settings, known).solve(output)
+    return Solving(settings, known, refuse).solve(output)
 
 
 def main(words: list[str]) -> int:

@@ -189,7 +189,8 @@ class Work:
         shown: io.StringIO = _Renaming(sys.stderr, self.named) if sys.stderr.isatty() else said
         try:
             with redirect_stderr(shown):
-                many.solve(many_options.arguments(words), io.BytesIO(), self.folder.programs)
+                settings = many_options.arguments(words)
+                many.solve(settings, io.BytesIO(), self.folder.programs, self.folder.refuse_moved)
             self.folder.seal(report)
         except many.StoppedError:
             raise KeyboardInterrupt from None

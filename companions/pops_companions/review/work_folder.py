@@ -19,7 +19,7 @@ from contextlib import suppress
 from functools import partial
 from itertools import chain
 from pathlib import Path
-from typing import NoReturn, Optional
+from typing import BinaryIO, NoReturn, Optional
 
 from pops_companions import files
 from pops_companions.command import CommandError, DeviceError, Status
@@ -33,6 +33,7 @@ _OWN = re.compile(
     r"|(?:solutions|short)\.report(?:\.journal|\.unfinished|\.sum)?)(?:\.[0-9a-f]{12})?"
 )
 _FOLDER = os.O_RDONLY | os.O_DIRECTORY | os.O_NOFOLLOW
+_READ = os.O_RDONLY | os.O_NOFOLLOW | os.O_NONBLOCK | os.O_CLOEXEC
 # The permissions of a new folder, and all that count: by the sticky bit it isn't one that a user made.
 _NEW = stat.S_ISVTX | stat.S_IRWXU
 _ALL = _NEW | stat.S_IRWXG | stat.S_IRWXO
@@ -121,7 +122,7 @@ class WorkFolder:
         if mark.exists():
             if not resume:
                 self._refuse("keeps a run that was stopped: go on with --resume, or remove it")
-            with open(mark, "rb") as file:
+            with self._opened(mark) as file:
                 self._refuse_other(file.read(_LONGEST_MARK))
         else:
             self.write(mark, self._mark)
@@ -191,11 +192,28 @@ class WorkFolder:
         """A program that was changed since the run began."""
         return next((it.program for it in self.programs if it.is_changed), None)
 
-    @staticmethod
-    def write(path: Path, text: bytes) -> None:
+    def refuse_moved(self) -> None:
+        """Ends the run where its folder was moved, or another stands in its place."""
+        with suppress(FileNotFoundError):
+            if os.path.samestat(os.fstat(self._handle), os.lstat(self.path)):
+                return
+        message = f"{self.path} was moved or replaced while it was in use"
+        raise CommandError(Status.UNFINISHED, message)
+
+    def write(self, path: Path, text: bytes) -> None:
         """Writes a file of the folder, completely or not at all."""
+        self.refuse_moved()
         with files.written_whole(str(path), links=files.Links.REPLACED) as file:
             file.write(text)
+
+    def _opened(self, path: Path) -> BinaryIO:
+        """Opens a file of the folder. FileNotFoundError where there is none, but a link or a pipe."""
+        with suppress(OSError):
+            handle = os.open(path.name, _READ, dir_fd=self._handle)
+            if stat.S_ISREG(os.fstat(handle).st_mode):
+                return os.fdopen(handle, "rb")
+            os.close(handle)
+        raise FileNotFoundError(errno.ENOENT, os.strerror(errno.ENOENT), str(path))
 
     def keep(self, path: Path, text: bytes) -> None:
         """Writes a text with its checksum in front, for `kept`."""
@@ -206,13 +224,13 @@ class WorkFolder:
         return _sum_of(chain([self._mark, os.fsencode(path.name), b"\n"], text))
 
     def _sum_of_file(self, path: Path) -> bytes:
-        with open(path, "rb") as file:
+        with self._opened(path) as file:
             return self._sum_of(path, iter(partial(file.read, _PIECE), b""))
 
     def kept(self, path: Path) -> Optional[bytes]:
         """Returns a text that `keep` wrote; None if there is none, or another."""
         try:
-            with open(path, "rb") as file:
+            with self._opened(path) as file:
                 if os.fstat(file.fileno()).st_size > MOST_OUTPUT + _LENGTH_OF_A_SUM:
                     return None
                 head, text = file.read(_LENGTH_OF_A_SUM), file.read()
@@ -227,7 +245,7 @@ class WorkFolder:
     def is_sealed(self, report: Path) -> bool:
         """Returns whether a report is the one that was noted as whole."""
         try:
-            with open(f"{report}{_SUM}", "rb") as file:
+            with self._opened(Path(f"{report}{_SUM}")) as file:
                 return file.read(_LENGTH_OF_A_SUM + 1) == self._sum_of_file(report)
         except FileNotFoundError:
             return False
