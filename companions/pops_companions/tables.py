@@ -11,6 +11,7 @@ _OF_FORMULAS = ("=", "+", "-", "@")
 _ENDS_OF_CELLS = ("\t", "\r", "\n")
 # Parts cells for a reader that takes no comma for an end: to it a quote after a comma is none.
 _PARTING = re.compile("([;\t\r\n])")
+_PARTING_IN_A_ROW = re.compile("([,;\t\r\n])")
 
 
 def row_of(cells: Iterable[object]) -> str:
@@ -24,15 +25,16 @@ def _cell(value: object) -> str:
     text = str(value)
     if isinstance(value, str):
         # (a quote may open a cell)
-        text = uncomputed(f"'{value}" if _is_formula(value.replace('"', "")) else value)
+        text = f"'{value}" if _is_formula(value.replace('"', "")) else value
+        text = uncomputed(text, _PARTING_IN_A_ROW)
     return in_a_line(text)
 
 
-def uncomputed(text: str) -> str:
-    """Returns a text with an apostrophe in front of what a spreadsheet would compute, also after a
-    semicolon or a tab, where a quote may open a cell.
+def uncomputed(text: str, parting: "re.Pattern[str]" = _PARTING) -> str:
+    """Returns a text with an apostrophe in front of what a spreadsheet would compute, also after what
+    may part cells, where a quote may open one.
     """
-    first, *others = _PARTING.split(text)
+    first, *others = parting.split(text)
     others[1::2] = [f"'{it}" if _is_formula(it.replace('"', "")) else it for it in others[1::2]]
     return "".join([f"'{first}" if _is_formula(text) else first, *others])
 

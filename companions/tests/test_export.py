@@ -80,6 +80,12 @@ class RoundTrips(unittest.TestCase):
                         tried += 1
         self.assertGreater(tried, 200)
 
+    def test_remarks_that_begin_as_a_problem_of_popeye_does(self) -> None:
+        for remark in ("Beg pardon", "Anfang der Komposition", "Début", "BeginProblem"):
+            text = f"BeginProblem\nRemark {remark}\n{MEN}\nEndProblem\n"
+            with self.subTest(remark):
+                self.assertEqual(same(exported("yaml", text=text.encode())), same(text))
+
     def test_characters_that_yaml_allows_only_as_codes(self) -> None:
         for sign in "\x7f\x80\x85\x8f\x9f\u2028\u2029\ufeff\ufffe\uffff":
             texts = f"Title a{sign}b\nOrigin e{sign}f\nRemark solution: g{sign}h"

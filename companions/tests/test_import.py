@@ -801,10 +801,10 @@ class Databases(unittest.TestCase):
         with tempfile.TemporaryDirectory() as room:
             table, source = Path(room) / "index", Path(room) / "in"
             fields = "algebraic:\n  white: [Kg6, Ra1]\n  black: [Kg8]\nstipulation: '#1'\n"
-            source.write_text("".join(f"---\nid: '{it}'\n{fields}" for it in ("=1+1", "\u200b@x", "12", "a=1", '"=1"')))
+            source.write_text("".join(f"---\nid: '{it}'\n{fields}" for it in ("=1+1", "\u200b@x", "12", "a=1", '"=1"', "1,=2")))
             imported("--index", str(table), str(source))
             ids = [line.split("\t")[-1] for line in table.read_text("utf-8").splitlines()[1:]]
-            self.assertEqual(ids, ["'=1+1", "'\u200b@x", "12", "a=1", "'\"=1\""])
+            self.assertEqual(ids, ["'=1+1", "'\u200b@x", "12", "a=1", "'\"=1\"", "1,'=2"])
 
     def test_an_id_in_the_index_has_only_characters(self) -> None:
         with tempfile.TemporaryDirectory() as room:

@@ -282,6 +282,11 @@ test('reading: no step of showing a long problem looks at all of its words', () 
   begin(TEXT);
 }));
 
+test('state: of a text without problems the first one is chosen', () => {
+  state.choose(0);
+  assert.equal(state.number, 1);
+});
+
 /** Begins with a long text that isn't read yet, does something, and returns whether this read it at once. */
 function readsAtOnce(act) {
   begin(TEXT);

@@ -52,11 +52,11 @@ class PageState {
   }
 
   /**
-   * Puts a problem on the board.
+   * Puts a problem on the board, the first of a text without problems too.
    * @param {number} number
    */
   choose(number) {
-    this.number = number;
+    this.number = Math.max(number, 1);
   }
 
   /**

@@ -8,6 +8,7 @@ from typing import NamedTuple, Optional
 from pops_companions.import_.options import option_left_out
 from pops_companions.import_.posing import COLOURS_TURNED, ZERO_POSITION, posed
 from pops_companions.import_.sources import read_drafts
+from pops_companions.input.given import LONGEST_TEXT
 from pops_companions.input.writing import text_of_problems
 from pops_companions.show.twins import Label, label_and_title
 
@@ -165,12 +166,14 @@ def read_problems(text: str) -> Reading:
     """
     reading = Reading()
     for draft in read_drafts(text):
+        titles = "; ".join(text for word, text in draft.texts if word == "Title" and text)
+        # (twins share no longer one)
+        titles = titles[:LONGEST_TEXT]
         for one in posed(draft):
             number = len(reading.problems) + len(reading.left_out) + 1
             if one.faults:
                 name = f"{draft.number} {one.label}".rstrip()
                 reasons = [fault.text for fault in one.faults]
-                titles = "; ".join(text for word, text in draft.texts if word == "Title" and text)
                 title = " ".join(filter(None, (titles, one.label)))
                 reading.left_out.append(LeftOut(one.faults[0].line, name, reasons, number, title))
             else:

@@ -12,6 +12,8 @@ from pops_companions.import_.yaml_problems import read_yaml
 _YAML = re.compile(
     r"(?:[^\S\n]*(?:#.*)?\n)*(?:---(?:\s|$)|%YAML|(?:- )?[A-Za-z-]+:(?:\s|$)|[^\S\n]*[\[{])"
 )
+# The mark of a document, or a directive: no word in such a text begins a problem of Popeye.
+_MARKED = re.compile(r"(?:[^\S\n]*(?:#.*)?\n)*(?:---(?:\s|$)|%YAML)")
 # How much is said of a problem or a twin.
 _MOST_SAID = 100
 
@@ -41,7 +43,7 @@ def _read(text: str) -> list[Draft]:
         text = text.replace("\r", "\n")
     if not text.strip():
         raise Unreadable(1, "there is no problem: the text is empty")
-    if _YAML.match(text) and not begins(text):
+    if _MARKED.match(text) or _YAML.match(text) and not begins(text):
         drafts = read_yaml(text)
         if not drafts:
             raise Unreadable(1, "there is no problem: all documents are empty")

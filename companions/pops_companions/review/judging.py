@@ -320,13 +320,13 @@ def _judge_short_solutions(
 ) -> None:
     if stipulation.moves <= stipulation.least_moves:
         asked = ()
-    lines = list(asked or ())
+    lines = dict.fromkeys(asked or ())
     all_shown = stipulation.play is not Play.HELP and not judgement.stopped
     for key in play.nodes:
         if not key.below and not _ends(key.move):
             all_shown = False
-        elif not reaches(key, 2 * stipulation.moves - 1) and key.text not in lines:
-            lines.append(key.text)
+        elif not reaches(key, 2 * stipulation.moves - 1):
+            lines.setdefault(key.text)
     if lines:
         judgement.find(Weight.FLAW, counted(len(lines), "short solution"), tuple(lines))
     elif asked is None and not all_shown:
