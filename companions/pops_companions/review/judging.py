@@ -263,7 +263,7 @@ def _judge_unfinished(
         judgement.find(Weight.FLAW, text, lines, True)
     stipulation = item.stipulation
     ending = [] if play is None else [it.text for it in play.nodes if _ends(it.move)]
-    asked = (*(short or ()), *(text for text in ending if text not in (short or ())))
+    asked = tuple(dict.fromkeys((*(short or ()), *ending)))
     if stipulation.moves > stipulation.least_moves and asked:
         judgement.short_solutions = len(asked)
         judgement.find(Weight.FLAW, f"at least {counted(len(asked), 'short solution')}", asked)
