@@ -310,8 +310,11 @@ class Judging(support.InRoom):
         path, target = folder.path / "tries-1.txt", self.room / "target"
         folder.keep(path, text)
         path.rename(target)
-        for make in (lambda: os.mkfifo(path), lambda: path.symlink_to(target)):
-            make()
+        for is_pipe in (True, False):
+            if is_pipe:
+                os.mkfifo(path)
+            else:
+                path.symlink_to(target)
             self.assertIsNone(folder.kept(path))
             path.unlink()
 
