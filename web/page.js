@@ -84,7 +84,7 @@ function listen() {
   area.onclick = placed;
   area.onkeyup = placed;
   area.onscroll = placeMarks;
-  listenToArea(() => setText(''));
+  listenToArea(() => setText(''), goSteps);
   element('problems').onchange = () => goToProblem(Number(element('problems').value));
   element('problemNumber').onchange = numberWritten;
   element('tries').addEventListener('change', showMost);

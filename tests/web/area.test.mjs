@@ -167,6 +167,50 @@ test('area: what selects all that is shown selects the whole text', () => {
   assert.equal(textNow().length > FEW, true);
 });
 
+test('area: the browser\'s own undo and redo are those of the page, also where all that is shown is selected', () => {
+  const act = inputType => {
+    const shown = area.value;
+    let isTaken = false;
+    area.dispatchEvent({ type: 'beforeinput', inputType, preventDefault: () => { isTaken = true; } });
+    if (isTaken) return;
+    area.value = shown.slice(1);
+    area.oninput();
+  };
+  begin(LONG);
+  area.setSelectionRange(3, 3);
+  type('abc');
+  const typed = textNow();
+  for (const [inputType, text] of [['historyUndo', LONG], ['historyUndo', ''], ['historyRedo', LONG], ['historyRedo', typed], ['historyRedo', typed]]) {
+    area.setSelectionRange(0, area.value.length);
+    act(inputType);
+    assert.equal(textNow(), text);
+  }
+  area.setSelectionRange(0, area.value.length);
+  type('x');
+  act('historyUndo');
+  assert.equal(textNow(), typed);
+});
+
+test('area: all that is shown of a long text can\'t be dragged, and a drag changes no more than it', () => {
+  const isRefused = () => {
+    let isTaken = false;
+    area.ondragstart({ preventDefault: () => { isTaken = true; } });
+    return isTaken;
+  };
+  begin(LONG);
+  area.setSelectionRange(0, 5);
+  assert.equal(isRefused(), false);
+  area.setSelectionRange(0, area.value.length);
+  assert.equal(isRefused(), true);
+  const rest = LONG.slice(area.value.length);
+  area.dispatchEvent({ type: 'beforeinput', inputType: 'deleteByDrag' });
+  area.value = '';
+  assert.equal(textNow(), rest);
+  begin(TEXT);
+  area.setSelectionRange(0, TEXT.length);
+  assert.equal(isRefused(), false);
+});
+
 test('area: a long text pasted into it takes the place of what is selected', () => {
   begin(TEXT);
   area.setSelectionRange(0, TEXT.length);

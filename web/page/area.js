@@ -206,15 +206,21 @@ function copied(event) {
 }
 
 /**
- * Lets what is done with all that is shown be done with the whole text.
+ * Lets what is done with all that is shown be done with the whole text, but for a drag, which is refused; lets the page undo and redo.
  * @param {() => void} empty what removes the whole text
+ * @param {(step: number) => void} goSteps
  */
-export function listenToArea(empty) {
+export function listenToArea(empty, goSteps) {
   const area = element('text');
   area.oncopy = copied;
   area.oncut = event => { if (copied(event)) empty(); };
-  area.addEventListener('beforeinput', () => {
+  area.ondragstart = event => { if (isPart() && isAllSelected()) event.preventDefault(); };
+  area.addEventListener('beforeinput', event => {
     wholeText();
-    areaText.isReplaced = isPart() && isAllSelected();
+    const isOfSelection = !/^history|Drag$|Drop$/.test(event.inputType);
+    areaText.isReplaced = isOfSelection && isPart() && isAllSelected();
+    if (!event.inputType.startsWith('history')) return;
+    event.preventDefault();
+    goSteps(event.inputType === 'historyUndo' ? -1 : 1);
   });
 }
