@@ -293,7 +293,8 @@ class Judging(support.InRoom):
     def test_a_folder_that_is_moved_while_it_is_in_use(self) -> None:
         work, foreign = self.room / "sheet.html.work", self.room / "foreign"
         foreign.mkdir()
-        moves = f"mv '{work}' '{work}.moved'\nln -s '{foreign}' '{work}'\n"
+        # (the programs may be started more than once)
+        moves = f"[ -d '{work}' ] && mkdir '{work}.moves' 2> /dev/null && mv '{work}' '{work}.moved' && ln -s '{foreign}' '{work}'\n"
         for name, words in (("pops", ()), ("pops-tries", ("--pops-tries",))):
             with self.subTest(name):
                 path = support.pops() if name == "pops" else self.tries_of_one()
@@ -304,6 +305,7 @@ class Judging(support.InRoom):
                 self.assertEqual(list(foreign.iterdir()), [])
                 work.unlink()
                 Path(f"{work}.moved").rename(self.room / f"moved by {name}")
+                Path(f"{work}.moves").rmdir()
 
     def test_a_kept_text_in_whose_place_a_pipe_or_link_stands(self) -> None:
         folder, text = self.begun_folder(), b"a text\n"

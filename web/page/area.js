@@ -212,7 +212,7 @@ function copied(event) {
  */
 export function listenToArea(empty, goSteps) {
   const area = element('text');
-  area.oncopy = copied;
+  area.oncopy = event => { copied(event); };
   area.oncut = event => { if (copied(event)) empty(); };
   area.ondragstart = event => { if (isPart() && isAllSelected()) event.preventDefault(); };
   area.addEventListener('beforeinput', event => {
