@@ -661,13 +661,20 @@ export function withTail(text) {
 }
 
 /**
- * Joins texts of problems to one, with the problems after an EndProblem.
- * @param {string[]} texts
+ * Returns the problems of a text, with those after an EndProblem, without the words that open and close them, step by step.
+ * @param {string} text
+ * @returns {Generator<void, string[]>}
  */
-export function joinedTexts(texts) {
-  const bodies = texts.flatMap(text => atOnce(readBlocks(text, true)).map(({ start, end }) => `${text.slice(start, end).trimEnd()}\n`));
-  return `BeginProblem${bodies.join('NextProblem')}EndProblem\n`;
+export function* bodiesOf(text) {
+  const blocks = yield* readBlocks(text, true);
+  return blocks.map(({ start, end }) => `${text.slice(start, end).trimEnd()}\n`);
 }
+
+/**
+ * Joins problems to one text.
+ * @param {string[]} bodies
+ */
+export const joinedBodies = bodies => `BeginProblem${bodies.join('NextProblem')}EndProblem\n`;
 
 // Where each line begins.
 const startsOf = remembered(function* (text) {

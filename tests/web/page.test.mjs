@@ -1484,6 +1484,34 @@ test('files: of many that are dropped all problems are one text, and the page sa
   assert.equal(blocksOf(textNow()).length, 4);
 });
 
+test('files: what many become is no longer than 8 MiB, also where short words become longer ones', async () => {
+  const long = `BeginProblem\nRemark ${'x'.repeat((1 << 23) - 100000)}\nEndProblem\n`;
+  begin('');
+  await dropFiles(fileOf('long.pop', long), fileOf('short.pop', `BeginProblem\n${'nex\n'.repeat(20000)}`), fileOf('one.pop', TEXT));
+  assert.equal(noteNow(), 'files read: 2 of 3, problems: 2. too long for the page, which takes 8 MiB in all: short.pop');
+  assert.deepEqual([textNow().length < 1 << 23, textNow().endsWith(TEXT.replace('Begin', 'Next'))], [true, true]);
+  setText(TEXT);
+});
+
+test('files: long ones of many are read in slices', async () => {
+  const { now } = performance;
+  let [time, turns] = [0, 0];
+  // (each look at this clock takes longer than a slice)
+  performance.now = () => (time += 1000);
+  const turn = () => {
+    turns += 1;
+    if (performance.now !== now) setImmediate(turn);
+  };
+  setImmediate(turn);
+  begin('');
+  const words = 50000;
+  await dropFiles(...['a', 'b'].map(name => fileOf(name, `BeginProblem\n${'Kg6\n'.repeat(words)}`)));
+  performance.now = now;
+  assert.equal(noteNow(), 'files read: 2 of 2, problems: 2');
+  assert.ok(turns > 2 * words / 2000, `${turns} turns`);
+  setText(TEXT);
+});
+
 test('contents: of many problems some are listed, and each is reached by its number', async () => {
   begin(`BeginProblem\n${Array.from({ length: 2000 }, (_, at) => `Title ${at + 1}\nStipulation #1\n`).join('NextProblem\n')}EndProblem\n`);
   const listed = () => element('problems').children.map(it => it.textContent);

@@ -3,9 +3,9 @@
 import { element, LONGEST_SHOWN } from '../elements.js';
 import { imported, isOfAnother } from '../importing.js';
 import { readFen } from '../position.js';
-import { LONG_TEXT } from '../slices.js';
+import { inSlices, LONG_TEXT } from '../slices.js';
 import { MOST_FILE_BYTES, textOfBytes } from '../store.js';
-import { blocksOf, hasProblem, joinedTexts, NEW_PROBLEM, withFen } from '../text.js';
+import { bodiesOf, hasProblem, joinedBodies, NEW_PROBLEM, withFen } from '../text.js';
 import { language, say } from '../words.js';
 import { isLongWith, selectionNow } from './area.js';
 import { doChore, SHORT_WORK } from './beside.js';
@@ -54,29 +54,42 @@ async function textOfFile(file) {
 async function takeMany(files) {
   /** @type {Record<'none' | 'long' | 'latin', string[]>} */
   const names = { none: [], long: [], latin: [] };
-  /** @type {{ name: string, made: Imported }[]} */
+  /** @type {{ name: string, made: Imported, bodies: string[] }[]} */
   const taken = [];
   let room = MOST_FILE_BYTES;
   for (const [at, file] of files.entries()) {
+    const { name, size } = file;
     note(say('fileOf', { number: at + 1, all: files.length }), () => true);
-    const read = file.size > room ? null : await textOfFile(file);
+    const read = size > room ? null : await textOfFile(file);
     const made = read && await problemsIn(read.text);
-    if (made?.text) taken.push({ name: file.name, made });
-    else names[file.size > room ? 'long' : 'none'].push(file.name);
-    if (made?.text) room -= file.size;
-    if (made?.text && !read?.isUtf8) names.latin.push(file.name);
+    const bodies = made?.text ? await bodiesIn(made.text) : [];
+    const { length } = joinedBodies(bodies);
+    if (size > room || length > room) names.long.push(name);
+    else if (!made || !bodies.length) names.none.push(name);
+    else {
+      taken.push({ name, made, bodies });
+      room -= length;
+      if (!read?.isUtf8) names.latin.push(name);
+    }
   }
   note('');
   const all = taken.map(it => it.made);
+  const bodies = taken.flatMap(it => it.bodies);
   const isAsked = taken.length > 0 && takeProblems({
-    text: joinedTexts(all.map(it => it.text ?? '')), asksForTries: all.some(it => it.asksForTries), refutations: Math.max(...all.map(it => it.refutations)),
+    text: joinedBodies(bodies), asksForTries: all.some(it => it.asksForTries), refutations: Math.max(...all.map(it => it.refutations)),
   });
-  const problems = taken.length ? blocksOf(textNow()).length : 0;
   const lost = taken.flatMap(({ name, made }) => made.lost.map(reason => `${name}: ${reason}`));
   note([
-    say('filesTaken', { count: taken.length, all: files.length, problems }), ...(isAsked ? [say('triesOn')] : []), ...sayNames(names), ...firstOf(lost),
+    say('filesTaken', { count: taken.length, all: files.length, problems: bodies.length }), ...(isAsked ? [say('triesOn')] : []), ...sayNames(names), ...firstOf(lost),
   ].join('. '));
 }
+
+/**
+ * Returns the problems of a text without the words around them; reads a long one in slices.
+ * @param {string} text
+ * @returns {Promise<string[]>}
+ */
+const bodiesIn = text => new Promise(take => { inSlices(text.length, bodiesOf(text), take); });
 
 /**
  * Returns the problems of a text as of one of another program: of one in FEN, of pops's own, or of another; null if there are none.
