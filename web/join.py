@@ -112,7 +112,7 @@ def main() -> None:
             script += f"\nexport {{ {', '.join(sorted(read_module(words[-1]).exports))} }};"
     except JoinError as fault:
         sys.exit(f"join: {fault}")
-    print(script)
+    sys.stdout.buffer.write(f"{script}\n".encode())
 
 
 if __name__ == "__main__":
