@@ -18,6 +18,10 @@ class Companion:
     def __call__(self) -> None:
         """Runs the companion on the program's arguments and ends with its status."""
         _end_by_interrupts()
+        for stream in (sys.stdout, sys.stderr):
+            # (Python's encodings of names in a network, which take no text)
+            if getattr(stream, "encoding", "") in ("idna", "punycode"):
+                stream.reconfigure(encoding="utf-8", errors="backslashreplace")  # type: ignore[attr-defined]
         try:
             self._run()
         except KeyboardInterrupt:
