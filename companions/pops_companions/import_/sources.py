@@ -12,7 +12,7 @@ from pops_companions.import_.yaml_problems import read_yaml
 _YAML = re.compile(
     r"(?:[^\S\n]*(?:#.*)?\n)*(?:---(?:\s|$)|%YAML|(?:- )?[A-Za-z-]+:(?:\s|$)|[^\S\n]*[\[{])"
 )
-# The mark of a document, or a directive: no word in such a text begins a problem of Popeye.
+# The mark of a document, or a directive: words of Popeye begin no problem there.
 _MARKED = re.compile(r"(?:[^\S\n]*(?:#.*)?\n)*(?:---(?:\s|$)|%YAML)")
 # How much is said of a problem or a twin.
 _MOST_SAID = 100
