@@ -19,7 +19,7 @@ class Companion:
         """Runs the companion on the program's arguments and ends with its status."""
         _end_by_interrupts()
         for stream in (sys.stdout, sys.stderr):
-            # (Python's encodings of names in a network, which take no text)
+            # (Python's encodings of domain names can't write other text)
             if getattr(stream, "encoding", "") in ("idna", "punycode"):
                 stream.reconfigure(encoding="utf-8", errors="backslashreplace")  # type: ignore[attr-defined]
         try:

@@ -267,5 +267,5 @@ def main(words: list[str]) -> Status:
     except sqlite3.Error as error:
         raise DeviceError(f"cannot read {settings.collection}: {error}") from None
     except UnicodeDecodeError:
-        # (so ends what SQLite says of a statement that isn't UTF-8)
+        # (SQLite's message quotes a statement that isn't UTF-8)
         raise DeviceError(f"cannot read {settings.collection}: it is damaged") from None

@@ -167,7 +167,7 @@ def read_problems(text: str) -> Reading:
     reading = Reading()
     for draft in read_drafts(text):
         titles = "; ".join(text for word, text in draft.texts if word == "Title" and text)
-        # (twins share no longer one)
+        # (no twin that pops reads has a longer one)
         titles = titles[:LONGEST_TEXT]
         for one in posed(draft):
             number = len(reading.problems) + len(reading.left_out) + 1

@@ -361,7 +361,7 @@ def _refuse_foreign(path: str) -> None:
         # (it begins with zeros while it is written)
         if not is_file or any(head) and head not in heads:
             raise CollectionError(f"{name} isn't a file of SQLite: move it away")
-        # (so ends one that names a file of several collections, which SQLite then removes)
+        # (a journal of several databases ends so, and SQLite removes the file that it names)
         if tail == _JOURNAL:
             raise CollectionError(f"{name} isn't of one collection: move it away")
 

@@ -207,7 +207,7 @@ class WorkFolder:
             file.write(text)
 
     def _opened(self, path: Path) -> BinaryIO:
-        """Opens a file of the folder. FileNotFoundError where there is none, but a link or a pipe."""
+        """Opens a file of the folder. FileNotFoundError where there is none, or a link or a pipe instead."""
         with suppress(OSError):
             handle = os.open(path.name, _READ, dir_fd=self._handle)
             if stat.S_ISREG(os.fstat(handle).st_mode):
