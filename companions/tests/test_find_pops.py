@@ -176,6 +176,24 @@ class Places(Room):
         nowhere = self.room / "nowhere"
         self.assertEqual(self.found(root / "companions", path=nowhere), self.unbuilt(root))
 
+    def test_no_checksum_is_kept_of_which_a_command_was_killed(self) -> None:
+        root = self.repository()
+        self.released(root)
+        # (nor is one of files that changed less than two seconds ago)
+        time.sleep(3)
+        for name in ("sort", "xargs"):
+            with self.subTest(name):
+                tool = self.tools / name
+                tool.unlink()
+                support.write_program(tool, "#!/bin/sh\nkill -KILL $$\n")
+                words = [str(root / FIND_PROGRAM), "--released", "pops"]
+                path = f"{self.tools}:/usr/bin:/bin"
+                run = subprocess.run(words, env={"PATH": path}, capture_output=True)
+                self.assertEqual((run.returncode, run.stdout), (1, b""))
+                self.assertEqual([*root.glob("out/sources*")], [])
+                tool.unlink()
+                tool.symlink_to(str(shutil.which(name)))
+
     def test_a_repositorys_script_is_never_run(self) -> None:
         root = self.repository()
         linked = self.room / "linked" / "pops"
