@@ -1,5 +1,6 @@
 """pops-many that is stopped or killed: what ends, what is left, what --resume takes up."""
 
+import errno
 import io
 import os
 import pty
@@ -21,7 +22,7 @@ from pops_companions.many.local import as_ended, run_locally
 from pops_companions.many.program import Program, RunError
 from pops_companions.many.progress import Progress
 from pops_companions.many.tasks import Source, tasks_of
-from tests import support
+from tests import run_here, support
 from tests.made_clock import made_clock
 from tests.six_problems import SixProblems, has_worked, wait_for
 
@@ -137,6 +138,25 @@ class Journals(SixProblems):
         )
         self.assertEqual(self.journal.read_bytes(), b"no journal\n")
         self.assertEqual(self.files(), ["six.report.journal"])
+
+    def test_a_journal_that_cannot_be_locked(self) -> None:
+        """The system refuses locks, as on some file systems of a network; a run without a report has a journal too."""
+        self.many(self.stand_in("kill -9 $$"))
+        kept, words = self.journal.read_bytes(), self.words(support.pops())
+        for number in (errno.ENOLCK, errno.ENOSYS, errno.EOPNOTSUPP):
+            with self.subTest(errno.errorcode[number]):
+                self.journal.write_bytes(kept)
+                refused = OSError(number, os.strerror(number))
+                alone = {"TMPDIR": str(self.room)}
+                with mock.patch("fcntl.flock", side_effect=refused), mock.patch.dict(os.environ, alone):
+                    resumed = run_here.companion("pops-many", *words, "--resume")
+                    self.assertEqual(self.journal.read_bytes(), kept)
+                    self.journal.unlink()
+                    outcomes = resumed, *(run_here.companion("pops-many", *it) for it in (words, [str(self.input)]))
+                self.assertEqual([(it.status, it.output) for it in outcomes], [(3, b"")] * 3)
+                for outcome in outcomes:
+                    self.assertRegex(outcome.error, rf"^pops-many: .*\.journal can't be locked: {refused.strerror}\n$")
+                self.assertEqual(self.files(), [])
 
     def test_a_run_that_ended_before_it_kept_anything_is_resumed(self) -> None:
         self.many(self.stand_in("kill -9 $$"))

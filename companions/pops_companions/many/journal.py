@@ -18,7 +18,7 @@ import zlib
 from collections.abc import Callable, Iterable, Iterator, Sequence
 from typing import TYPE_CHECKING, NamedTuple, Optional, Union
 
-from pops_companions.command import CommandError, Status
+from pops_companions.command import CommandError, DeviceError, Status
 from pops_companions.many.tasks import UNFINISHED, Result, Source
 from pops_companions.report import lines
 
@@ -178,7 +178,10 @@ class Journal:
         except BlockingIOError:
             raise JournalError(f"{self.path} is in use by another run") from None
         except OSError as error:
-            raise JournalError(f"{self.path} can't be locked: {error.strerror}") from None
+            # (an empty one keeps nothing)
+            if self.is_there and not os.fstat(self._file.fileno()).st_size:
+                os.unlink(self.path)
+            raise DeviceError(f"{self.path} can't be locked: {error.strerror}") from None
         if not self.is_there:
             # (it ended just now, and removed its journal)
             raise JournalError(f"{self.path} was removed by another run: try again")
