@@ -4,6 +4,7 @@ import errno
 import fcntl
 import os
 import re
+import shutil
 import signal
 import subprocess
 import sys
@@ -306,6 +307,43 @@ class Judging(support.InRoom):
                 work.unlink()
                 Path(f"{work}.moved").rename(self.room / f"moved by {name}")
                 Path(f"{work}.moves").rmdir()
+
+    def test_what_others_put_into_its_folder_while_it_is_in_use(self) -> None:
+        """Nothing of it is read, written through or removed, and no pipe is waited for."""
+        work, foreign = self.room / "sheet.html.work", self.room / "foreign"
+        unsound = b"problem 1\n#1\nplay\n1.Ra1-a8#\n1.Ra1-b8#\nsolutions: 2\n\n"
+        # (for short.report a problem has to be longer than one move)
+        self.text.write_bytes(ONE + TWO.replace(b"h#1", b"h#2"))
+        paths = {"pops": support.pops(), "pops-tries": self.tries_of_one()}
+        for name, kind, by in (
+            ("solutions.report", "ln -s '{foreign}'", "pops-tries"),
+            ("solutions.report", "mkfifo", "pops-tries"),
+            ("input.pop", "ln -s '{foreign}'", "pops"),
+            ("solutions.report.unfinished", "ln -s '{foreign}'", "pops"),
+            ("short.report.journal", "mkfifo", "pops"),
+            ("short.report", "mkdir", "pops"),
+            ("tries-99.txt", "mkdir", "pops-tries"),
+        ):
+            with self.subTest(name, kind=kind, by=by):
+                foreign.write_bytes(unsound)
+                put = f"rm -f '{work}/{name}'; {kind.format(foreign=foreign)} '{work}/{name}'"
+                once = f"if mkdir '{self.room}/once' 2> /dev/null; then {put}; fi\n"
+                wrapper = self.script("wrapper", f"{once}exec '{paths[by]}' \"$@\"\n")
+                words = [f"--{it}={wrapper if it == by else paths[it]}" for it in paths]
+                outcome = run_here.companion("pops-judge", str(self.text), "-o", str(self.sheet), *words, *NO_HURRY)
+                said = f"pops-judge: {work} was changed while it was in use: remove it\n"
+                self.assertEqual((outcome, self.sheet.exists()), ((6, b"", said), False))
+                self.assertEqual(foreign.read_bytes(), unsound)
+                shutil.rmtree(work)
+                (self.room / "once").rmdir()
+
+    def test_a_link_that_others_put_in_place_of_a_report_is_replaced(self) -> None:
+        report, foreign = self.room / "sheet.html.work" / "solutions.report", self.room / "foreign"
+        foreign.write_bytes(b"ours")
+        links = self.script("links", f"ln -s '{foreign}' '{report}' 2> /dev/null\nexec '{support.pops()}' \"$@\"\n")
+        outcome = self.judged(pops=links)
+        self.assertEqual((outcome.status, outcome.error), (0, ""))
+        self.assertEqual(foreign.read_bytes(), b"ours")
 
     def test_a_kept_text_in_whose_place_a_pipe_or_link_stands(self) -> None:
         folder, text = self.begun_folder(), b"a text\n"

@@ -71,7 +71,7 @@ def say_of_rests(inputs: Sequence[Input], progress: Progress) -> None:
 def reports_of(settings: Settings, tasks: Tasks, journal: str, run: bytes) -> list[Report]:
     """Returns the reports that are to be written, with their files."""
     limited = settings.seconds is not None or settings.split or settings.resume
-    links = Links.REPLACED if settings.each else Links.FOLLOWED
+    links = Links.REPLACED if settings.each else settings.links
 
     def report(tasks: Tasks, path: Optional[str]) -> Report:
         second = None

@@ -6,7 +6,7 @@ from typing import Optional
 
 from pops_companions import command
 from pops_companions.command import flag, option, word
-from pops_companions.files import is_device
+from pops_companions.files import Links, is_device
 from pops_companions.many.program import LOOKED_FOR
 
 NAME = "pops-many"
@@ -49,6 +49,9 @@ class Settings(
     "on from there.",
 ):
     """The words of the command line."""
+
+    # What becomes of a link by the name of the report.
+    links = Links.FOLLOWED
 
     files: list[str] = word("FILE", "an input of pops", nargs="*")
     output: Optional[str] = option(

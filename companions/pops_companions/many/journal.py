@@ -100,13 +100,8 @@ def _digest(text: str) -> bytes:
     return hashlib.sha256(text.encode("utf-8", "surrogateescape")).hexdigest().encode("ascii")
 
 
-def is_begun(path: str) -> bool:
-    """Returns whether a journal is there and its first line is whole: otherwise it keeps nothing."""
-    try:
-        with open(path, "rb") as file:
-            line = file.readline(_LONGEST_HEAD)
-    except FileNotFoundError:
-        return False
+def is_begun(line: bytes) -> bool:
+    """Returns whether a journal's first line is whole: otherwise it keeps nothing."""
     return line.startswith(_ANY_HEAD) and line.endswith(b"\n")
 
 

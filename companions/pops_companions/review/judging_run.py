@@ -13,10 +13,10 @@ from dataclasses import dataclass, replace
 from pathlib import Path
 from typing import NamedTuple, NoReturn, Optional, TextIO
 
-from pops_companions import files
 from pops_companions.chess.stipulation import Play
 from pops_companions.command import CommandError, DeviceError, Status
 from pops_companions.commands import many, many_options
+from pops_companions.files import Links
 from pops_companions.input.given import GivenProblem
 from pops_companions.input.pieces import cut
 from pops_companions.input.writing import text_of_problems
@@ -32,7 +32,7 @@ from pops_companions.report.source import UNFINISHED
 from pops_companions.report.tries import TriesItem, is_of_item
 from pops_companions.review.kept_text import tries_of_text
 from pops_companions.review.posing import posed_problems
-from pops_companions.review.work_folder import WorkFolder
+from pops_companions.review.work_folder import OthersError, WorkFolder
 from pops_companions.sheet.boards import are_possible
 from pops_companions.sheet.entries import boards_of
 
@@ -130,13 +130,19 @@ class Work:
 
     @contextmanager
     def read(self) -> Iterator[None]:
-        """Keeps nothing of what the programs wrote, if it can't be read: a later run makes it again."""
+        """Keeps nothing of what the programs wrote, if it can't be read: a later run makes it again.
+
+        CommandError where others changed the folder: then something else may have been read.
+        """
+        self.folder.refuse_others()
         try:
             yield
         except CommandError as error:
+            self.folder.refuse_others()
             self.folder.empty()
             do = f"remove {self.folder.path}, and name other programs with --pops or --pops-tries"
             raise CommandError(error.status, f"{error}: {do}") from None
+        self.folder.refuse_others()
 
     def solve(self) -> None:
         """Solves the problems."""
@@ -167,22 +173,24 @@ class Work:
 
     def _many(self, source: Path, report: Path) -> None:
         """Runs what pops-many runs, which goes on where it was stopped."""
+        self.folder.refuse_others()
         journal = Path(f"{report}.journal")
         # (the journal has what is in it)
-        files.remove(f"{report}{UNFINISHED}")
-        if not journal.is_file() and self.folder.is_sealed(report):
+        self.folder.discard(Path(f"{report}{UNFINISHED}"))
+        begun = self.folder.first_line(journal)
+        if begun is None and self.folder.is_sealed(report):
             return
-        files.remove(str(report))
+        self.folder.discard(report)
         # (the value of an option may begin with a dash, as the name of a sheet)
         words = [f"--pops={self._runs.pops}", f"--output={report}"]
         if self._runs.jobs is not None:
             words.append(f"--jobs={self._runs.jobs}")
         if self._runs.seconds is not None:
             words.append(f"--seconds={self._runs.seconds!r}")
-        goes_on = is_begun(str(journal))
+        goes_on = begun is not None and is_begun(begun)
         if not goes_on:
             # (one whose first line is cut or damaged keeps nothing)
-            files.remove(str(journal))
+            self.folder.discard(journal)
         words += [*["--resume"] * goes_on, "--", str(source)]
         said = io.StringIO()
         # (on a terminal it shows how far it is)
@@ -190,12 +198,15 @@ class Work:
         try:
             with redirect_stderr(shown):
                 settings = many_options.arguments(words)
+                settings.links = Links.REPLACED
                 many.solve(settings, io.BytesIO(), self.folder.programs, self.folder.refuse_moved)
             self.folder.seal(report)
         except many.StoppedError:
             raise KeyboardInterrupt from None
         except many.ChangedError as error:
             self._drop(error.program)
+        except OthersError:
+            raise
         except CommandError as error:
             if error.status == Status.UNFINISHED and report.is_file():
                 self.is_finished = False
@@ -272,7 +283,7 @@ class Work:
                 shown = tries.get(item.number)
                 if isinstance(item, SoundItem) and shown is not None and not is_of_item(shown, item):
                     del tries[item.number]
-                    files.remove(str(self._text_of(item.number)))
+                    self.folder.discard(self._text_of(item.number))
                     self.failed[item.number] = "pops-tries shows other keys than pops"
                     self.is_finished = False
 

@@ -89,6 +89,13 @@ def _difference(begun: list[str], now: list[str]) -> str:
     return f"was begun with another {name}: name {before} with --{name}, or remove it"
 
 
+class OthersError(CommandError):
+    """A folder that somebody moved, replaced or changed while it was in use."""
+
+    def __init__(self, message: str):
+        super().__init__(Status.UNFINISHED, message)
+
+
 class WorkFolder:
     """The folder, by its path."""
 
@@ -161,14 +168,19 @@ class WorkFolder:
         """Refuses a folder that this program didn't make, and links in one that it made."""
         names = os.listdir(self._handle)
         known = os.fstat(self._handle)
-        kinds = [os.stat(it, dir_fd=self._handle, follow_symlinks=False).st_mode for it in names]
         # (killed right after it made the folder, a run left no mark)
         is_unmarked = (is_new or known.st_mode & _ALL == _NEW) and all(
             _OWN.fullmatch(it) and it.startswith(f"{_MARK}.") for it in names
         )
-        is_own = known.st_uid == os.geteuid() and all(map(stat.S_ISREG, kinds))
+        is_own = known.st_uid == os.geteuid() and all(map(self._is_file, names))
         if not is_own or not (_MARK in names or is_unmarked):
             self._refuse(_FOREIGN)
+
+    def _is_file(self, name: str) -> bool:
+        """Returns whether a file has this name in the folder, or none: no link, pipe or folder."""
+        with suppress(FileNotFoundError):
+            return stat.S_ISREG(os.stat(name, dir_fd=self._handle, follow_symlinks=False).st_mode)
+        return True
 
     def _refuse_other(self, mark: bytes) -> None:
         """Refuses a folder with another mark than that of the input and the programs."""
@@ -197,8 +209,15 @@ class WorkFolder:
         with suppress(FileNotFoundError):
             if os.path.samestat(os.fstat(self._handle), os.lstat(self.path)):
                 return
-        message = f"{self.path} was moved or replaced while it was in use"
-        raise CommandError(Status.UNFINISHED, message)
+        raise OthersError(f"{self.path} was moved or replaced while it was in use")
+
+    def refuse_others(self) -> None:
+        """Ends the run where its folder was moved or replaced, or a link, pipe or folder has the name of
+        a file of its own.
+        """
+        self.refuse_moved()
+        if not all(self._is_file(it) for it in os.listdir(self._handle) if _OWN.fullmatch(it)):
+            raise OthersError(f"{self.path} was changed while it was in use: remove it")
 
     def write(self, path: Path, text: bytes) -> None:
         """Writes a file of the folder, completely or not at all."""
@@ -214,6 +233,12 @@ class WorkFolder:
                 return os.fdopen(handle, "rb")
             os.close(handle)
         raise FileNotFoundError(errno.ENOENT, os.strerror(errno.ENOENT), str(path))
+
+    def first_line(self, path: Path) -> Optional[bytes]:
+        """Returns the first line of a file, as far as it isn't longer than a mark; None if there is no file."""
+        with suppress(FileNotFoundError), self._opened(path) as file:
+            return file.readline(_LONGEST_MARK)
+        return None
 
     def keep(self, path: Path, text: bytes) -> None:
         """Writes a text with its checksum in front, for `kept`."""
@@ -250,11 +275,17 @@ class WorkFolder:
         except FileNotFoundError:
             return False
 
+    def discard(self, path: Path) -> None:
+        """Removes a file of the folder, if there is one."""
+        if self._is_file(path.name):
+            with suppress(FileNotFoundError):
+                os.unlink(path.name, dir_fd=self._handle)
+
     def empty(self, with_mark: bool = False) -> None:
         """Removes what is the program's own, but for the mark, which may go last."""
         for name in sorted(os.listdir(self._handle), key=lambda it: it == _MARK):
             if _OWN.fullmatch(name) and (with_mark or name != _MARK):
-                os.unlink(name, dir_fd=self._handle)
+                self.discard(Path(name))
 
     def remove(self) -> bool:
         """Removes what is the program's own; returns whether nothing else was in the folder."""
