@@ -11,13 +11,12 @@ import tempfile
 import threading
 import time
 import unittest
-from concurrent.futures import ThreadPoolExecutor
 from pathlib import Path
 from unittest import mock
 
 from pops_companions.commands.many import name_of_run
 from pops_companions.many import sessions
-from pops_companions.many.local import as_ended, run_locally
+from pops_companions.many.local import in_threads, run_locally
 from pops_companions.many.program import Program, RunError
 from pops_companions.many.progress import Progress
 from pops_companions.many.tasks import Source, tasks_of
@@ -260,15 +259,14 @@ class Waits(unittest.TestCase):
         mask = signal.pthread_sigmask(signal.SIG_BLOCK, [signal.SIGUSR1])
         self.addCleanup(signal.pthread_sigmask, signal.SIG_SETMASK, mask)
 
-        def send() -> bool:
+        def send() -> None:
             time.sleep(0.2)
             signal.pthread_sigmask(signal.SIG_UNBLOCK, [signal.SIGUSR1])
             os.kill(os.getpid(), signal.SIGUSR1)
-            return heard.wait(support.PATIENCE)
+            heard.wait(support.PATIENCE)
 
-        with ThreadPoolExecutor(1) as pool:
-            (future,) = as_ended([pool.submit(send)])
-        self.assertTrue(future.result())
+        in_threads(send, 1, heard.set)
+        self.assertTrue(heard.is_set())
 
 
 class LastLine(unittest.TestCase):

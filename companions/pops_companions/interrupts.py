@@ -1,0 +1,85 @@
+"""Where the signals that end a companion raise KeyboardInterrupt.
+
+A signal raises at once, but in blocks that take locks, or begin and end what has to be ended: there it is
+only noted, and raised where they end. So no lock stays taken, and nothing has begun of which nobody knows.
+Only the first signal raises: none breaks off the cleaning up. Without `begin`, as where these modules are
+used as a library or in another thread than the main one, nothing differs.
+"""
+
+import signal
+import threading
+from collections.abc import Callable, Iterator
+from contextlib import AbstractContextManager, contextmanager
+
+# The signals that end a companion in order, but for one that is ignored, as by nohup.
+SIGNALS = (signal.SIGINT, signal.SIGTERM, signal.SIGHUP)
+
+
+class _Run:
+    """What is known of the signals of a run."""
+
+    has_come = is_held = is_raised = False
+
+    def heed(self, *_: object) -> None:
+        """Raises the signal that has come, if it may be raised now."""
+        if self.has_come and not self.is_held and not self.is_raised:
+            self.is_raised = True
+            raise KeyboardInterrupt
+
+    def come(self, *_: object) -> None:
+        self.has_come = True
+        self.heed()
+
+
+_run = _Run()
+
+
+def _is_main() -> bool:
+    return threading.current_thread() is threading.main_thread()
+
+
+def begin() -> None:
+    """Lets signals raise KeyboardInterrupt from now on, but at first only where they are `allowed`."""
+    if not _is_main():
+        return
+    _run.has_come = _run.is_raised = False
+    _run.is_held = True
+    for sign in SIGNALS:
+        if signal.getsignal(sign) not in (signal.SIG_IGN, None):
+            signal.signal(sign, _run.come)
+
+
+def end() -> None:
+    """Lets signals do nothing in the moment before the program ends."""
+    if _is_main():
+        signal.pthread_sigmask(signal.SIG_BLOCK, SIGNALS)
+
+
+@contextmanager
+def _set(is_held: bool) -> Iterator[None]:
+    # (the main thread alone hears of signals)
+    if not _is_main():
+        yield
+        return
+    before, _run.is_held = _run.is_held, is_held
+    try:
+        _run.heed()
+        yield
+    finally:
+        _run.is_held = before
+        _run.heed()
+
+
+def allowed() -> AbstractContextManager[None]:
+    """Lets signals raise at once in the block."""
+    return _set(False)
+
+
+@contextmanager
+def held() -> Iterator[Callable[[], AbstractContextManager[None]]]:
+    """Lets a signal that comes in the block be raised at its end; yields what makes blocks within it in which
+    signals are what they were before it.
+    """
+    before = _run.is_held
+    with _set(True):
+        yield lambda: _set(before)
