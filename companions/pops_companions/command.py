@@ -315,6 +315,15 @@ def _close_output() -> None:
         _drop(sys.stdout)
 
 
+def drop_output() -> None:
+    """Drops what threads of a companion write to standard output from now on, also where one waits until
+    it is read.
+    """
+    if sys.stdout is not None and interrupts.heeded():
+        _drop(sys.stdout)
+        interrupts.wake()
+
+
 def _drop(stream: TextIO) -> None:
     """Lets a stream take all, and drop it."""
     os.dup2(os.open(os.devnull, os.O_WRONLY), stream.fileno())

@@ -55,6 +55,19 @@ def end() -> None:
         signal.pthread_sigmask(signal.SIG_BLOCK, SIGNALS)
 
 
+def heeded() -> list[signal.Signals]:
+    """Returns the signals that raise."""
+    return [sign for sign in SIGNALS if signal.getsignal(sign) == _run.come]
+
+
+def wake() -> None:
+    """Lets each thread that waits in a call of the system try it again, if signals raise."""
+    for sign in heeded()[:1]:
+        for thread in threading.enumerate():
+            if thread.ident is not None and thread is not threading.main_thread():
+                signal.pthread_kill(thread.ident, sign)
+
+
 @contextmanager
 def _set(is_held: bool) -> Iterator[None]:
     # (the main thread alone hears of signals)

@@ -4,6 +4,7 @@ import io
 import os
 import pty
 import re
+import select
 import signal
 import subprocess
 import sys
@@ -22,7 +23,7 @@ from pops_companions.many.progress import Progress
 from pops_companions.many.tasks import Source, tasks_of
 from tests import support
 from tests.made_clock import made_clock
-from tests.six_problems import SixProblems, has_worked, wait_for
+from tests.six_problems import SIX, SixProblems, has_worked, wait_for
 
 WAITS = "sleep 6000 & sleep 6001"
 
@@ -107,6 +108,21 @@ class Signals(SixProblems):
         self.assertIsNone(run.poll())
         run.send_signal(signal.SIGTERM)
         run.communicate(timeout=support.PATIENCE)
+        self.assertEqual(run.returncode, 6)
+
+    def test_a_reader_that_reads_nothing(self) -> None:
+        problems = self.room / "many.pop"
+        body = SIX.removeprefix(b"BeginProblem").removesuffix(b"EndProblem\n")
+        problems.write_bytes(b"BeginProblem" + b"NextProblem".join([body] * 300) + b"EndProblem\n")
+        reading, writing = os.pipe()
+        self.addCleanup(os.close, reading)
+        self.addCleanup(os.close, writing)
+        words = [sys.executable, str(support.COMPANIONS / "pops-many"), "--pops", support.pops()]
+        words += ["--journal", str(self.journal), str(problems)]
+        with subprocess.Popen(words, stdout=writing, stderr=subprocess.PIPE) as run:
+            wait_for(lambda: not select.select([], [writing], [], 0)[1])
+            run.send_signal(signal.SIGTERM)
+            self.assertIn(b"stopped\n", run.communicate(timeout=support.PATIENCE)[1])
         self.assertEqual(run.returncode, 6)
 
     def test_a_terminal_that_was_closed_takes_no_message_and_harms_nothing(self) -> None:

@@ -4,10 +4,11 @@ import threading
 import time
 from collections import deque
 from collections.abc import Callable, Iterable, Sequence
-from concurrent.futures import FIRST_COMPLETED, ThreadPoolExecutor, wait
+from concurrent.futures import FIRST_COMPLETED, Future, ThreadPoolExecutor, wait
 from typing import TypeVar
 
 from pops_companions import interrupts
+from pops_companions.command import drop_output
 from pops_companions.many.bundles import Bundles
 from pops_companions.many.program import OutputRunError, Program, RunError
 from pops_companions.many.tasks import Result, Task
@@ -16,6 +17,8 @@ from pops_companions.many.tasks import Result, Task
 TRIES = 2
 # After this many seconds without an end signals are heeded, and `wait_on` is called, to show that time passes.
 _SECONDS_OF_SILENCE = 0.5
+# The seconds that threads have to end, once they are stopped.
+_SECONDS_TO_END = 3.0
 Given = TypeVar("Given")
 Found = TypeVar("Found")
 
@@ -32,6 +35,7 @@ def in_threads(
     Signals are heeded between short waits: one that broke off a wait could leave locks taken.
     """
     with interrupts.held() as as_before, ThreadPoolExecutor(max(number, 1)) as threads:
+        left: set[Future[None]] = set()
         try:
             left = {threads.submit(work) for _ in range(number)}
             while left:
@@ -43,6 +47,9 @@ def in_threads(
                         wait_on()
         except BaseException:
             stop()
+            if wait(left, _SECONDS_TO_END).not_done:
+                # (nobody reads what one writes, it seems)
+                drop_output()
             raise
 
 
