@@ -7,12 +7,15 @@ used as a library or in another thread than the main one, nothing differs.
 """
 
 import signal
+import sys
 import threading
 from collections.abc import Callable, Iterator
 from contextlib import AbstractContextManager, contextmanager
 
 # The signals that end a companion in order, but for one that is ignored, as by nohup.
 SIGNALS = (signal.SIGINT, signal.SIGTERM, signal.SIGHUP)
+# After this many seconds a signal is raised again that Python dropped.
+_MOMENT = 0.05
 
 
 class _Run:
@@ -29,6 +32,14 @@ class _Run:
     def come(self, *_: object) -> None:
         self.has_come = True
         self.heed()
+
+    def drop(self, what: "sys.UnraisableHookArgs") -> None:
+        """Takes what no caller can get, as it comes of `__del__`: a signal is raised again."""
+        if what.exc_type is not KeyboardInterrupt:
+            sys.__unraisablehook__(what)
+            return
+        self.is_raised = False
+        signal.setitimer(signal.ITIMER_REAL, _MOMENT)
 
 
 _run = _Run()
@@ -47,12 +58,14 @@ def begin() -> None:
     for sign in SIGNALS:
         if signal.getsignal(sign) not in (signal.SIG_IGN, None):
             signal.signal(sign, _run.come)
+    signal.signal(signal.SIGALRM, _run.heed)
+    sys.unraisablehook = _run.drop
 
 
 def end() -> None:
     """Lets signals do nothing in the moment before the program ends."""
     if _is_main():
-        signal.pthread_sigmask(signal.SIG_BLOCK, SIGNALS)
+        signal.pthread_sigmask(signal.SIG_BLOCK, (*SIGNALS, signal.SIGALRM))
 
 
 def heeded() -> list[signal.Signals]:
