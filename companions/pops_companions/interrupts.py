@@ -10,7 +10,7 @@ import signal
 import sys
 import threading
 from collections.abc import Callable, Iterator
-from contextlib import AbstractContextManager, contextmanager
+from contextlib import AbstractContextManager, contextmanager, suppress
 
 # The signals that end a companion in order, but for one that is ignored, as by nohup.
 SIGNALS = (signal.SIGINT, signal.SIGTERM, signal.SIGHUP)
@@ -78,7 +78,9 @@ def wake() -> None:
     for sign in heeded()[:1]:
         for thread in threading.enumerate():
             if thread.ident is not None and thread is not threading.main_thread():
-                signal.pthread_kill(thread.ident, sign)
+                # (it may have ended just now)
+                with suppress(ProcessLookupError):
+                    signal.pthread_kill(thread.ident, sign)
 
 
 @contextmanager
@@ -103,8 +105,8 @@ def allowed() -> AbstractContextManager[None]:
 
 @contextmanager
 def held() -> Iterator[Callable[[], AbstractContextManager[None]]]:
-    """Lets a signal that comes in the block be raised at its end; yields what makes blocks within it in which
-    signals are what they were before it.
+    """Lets a signal that comes in the block be raised at its end; yields what makes a block within it, in
+    which signals do what they did before.
     """
     before = _run.is_held
     with _set(True):

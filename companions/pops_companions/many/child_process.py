@@ -139,8 +139,6 @@ class ChildProcess:
         self._has_others = not starts_none(words[0])
         self._mark = sessions.new_mark() if self._has_others else ""
         self._pipe = sessions.name_of_pipe(self._watched)
-        if self._mark:
-            environment = {**(environment or os.environ), self._mark: "1"}
         self.is_killed = self._is_released = False
         try:
             with interrupts.held():
@@ -153,7 +151,7 @@ class ChildProcess:
                     stdin=source,
                     stdout=output,
                     stderr=errors,
-                    env=environment,
+                    env={**(environment or os.environ), self._mark: "1"} if self._mark else environment,
                     pass_fds=(self._watched,),
                     start_new_session=True,
                 )

@@ -15,7 +15,7 @@ from pops_companions.many.tasks import Result, Task
 
 # How often a run that fails is tried in all.
 TRIES = 2
-# After this many seconds without an end signals are heeded, and `wait_on` is called, to show that time passes.
+# After this many seconds without an end signals are heeded, and `wait_on` is called: time passes.
 _SECONDS_OF_SILENCE = 0.5
 # The seconds that threads have to end, once they are stopped.
 _SECONDS_TO_END = 3.0
