@@ -6,10 +6,8 @@ import gc
 import io
 import os
 import re
-import signal
 import stat
 import sys
-import threading
 from collections.abc import Callable, Iterator, Sequence
 from contextlib import contextmanager, suppress
 from enum import IntEnum
@@ -17,10 +15,8 @@ from functools import lru_cache
 from itertools import takewhile
 from typing import Any, BinaryIO, ClassVar, NamedTuple, NoReturn, Optional, TextIO, TypeVar, Union
 
-from pops_companions import files, places
+from pops_companions import files, interrupts, places
 
-# The signals that end a companion in order, but for one that is ignored, as by nohup.
-_SIGNALS = (signal.SIGINT, signal.SIGTERM, signal.SIGHUP)
 _LONGEST_NUMBER = 18
 # Characters that a terminal obeys, but for line end, tab, and the return to the begin of a line.
 _OBEYED = re.compile("[\x00-\x08\x0b\x0c\x0e-\x1f\x7f-\x9f]")
@@ -165,9 +161,11 @@ class Settings(argparse.Namespace):
 
 def run(name: str, command: Callable[[list[str]], int]) -> NoReturn:
     """Runs a companion on the program's arguments and ends with its status."""
-    with _signals_as_interrupts(), _rare_collections(), _harmless_messages():
+    interrupts.begin()
+    with _rare_collections(), _harmless_messages():
         status = _ended(name, command)
     _close_output()
+    interrupts.end()
     sys.exit(status)
 
 
@@ -175,9 +173,10 @@ def _ended(name: str, command: Callable[[list[str]], int]) -> int:
     """Returns how a command ends. Whatever it leaves uncaught is said in one line."""
     _READ.clear()
     try:
-        _buffer_output()
-        status = _status_of(command)
-        sys.stdout.flush()
+        with interrupts.allowed():
+            _buffer_output()
+            status = _status_of(command)
+            sys.stdout.flush()
         return status
     except CommandError as error:
         message, status = str(error), int(error.status)
@@ -207,31 +206,6 @@ def _of_fault(error: Exception) -> tuple[str, Status]:
 def said_of(error: OSError) -> str:
     """Returns what is said of a call that failed: the file, if one is known, and why."""
     return ": ".join(map(str, filter(None, (error.filename, error.strerror or error))))
-
-
-@contextmanager
-def _signals_as_interrupts() -> Iterator[None]:
-    """Lets each signal that ends a program raise KeyboardInterrupt, the first one only."""
-    before = {sign: signal.getsignal(sign) for sign in _SIGNALS}
-    heeded = [sign for sign in _SIGNALS if before[sign] not in (signal.SIG_IGN, None)]
-    if threading.current_thread() is not threading.main_thread():
-        heeded = []
-
-    def pass_over(*_: object) -> None:
-        """Heeds nothing. (Python complains where SIG_IGN is set while a signal is on its way.)"""
-
-    def stop(*_: object) -> NoReturn:
-        for sign in heeded:
-            signal.signal(sign, pass_over)
-        raise KeyboardInterrupt
-
-    for sign in heeded:
-        signal.signal(sign, stop)
-    try:
-        yield
-    finally:
-        for sign in heeded:
-            signal.signal(sign, before[sign])
 
 
 @contextmanager
@@ -339,6 +313,15 @@ def _close_output() -> None:
             sys.stdout.flush()
     except OSError:
         _drop(sys.stdout)
+
+
+def drop_output() -> None:
+    """Drops what threads of a companion write to standard output from now on, also where one waits until
+    it is read.
+    """
+    if sys.stdout is not None and interrupts.heeded():
+        _drop(sys.stdout)
+        interrupts.wake()
 
 
 def _drop(stream: TextIO) -> None:

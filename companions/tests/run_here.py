@@ -19,7 +19,9 @@ def companion(name: str, *words: str, text: bytes = b"") -> support.Outcome:
     output = io.TextIOWrapper(written, "utf-8")
     arguments: list[str] = [name, *words]
     status = 0
-    with mock.patch.multiple(sys, argv=arguments, stdin=source, stdout=output, stderr=error):
+    # (this process goes on after it)
+    signals = mock.patch.multiple("pops_companions.interrupts", begin=mock.DEFAULT, end=mock.DEFAULT)
+    with signals, mock.patch.multiple(sys, argv=arguments, stdin=source, stdout=output, stderr=error):
         try:
             module.command.run(name, module.main)
         except SystemExit as end:

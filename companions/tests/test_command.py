@@ -504,6 +504,24 @@ class Ends(unittest.TestCase):
         )
         self.assertEqual(outcome, (6, b"", "it: stopped\n"))
 
+    def test_a_signal_where_nothing_can_be_raised(self) -> None:
+        outcome = self.run_of(
+            "class Ending:",
+            "    def __del__(self): os.kill(os.getpid(), signal.SIGTERM)",
+            "Ending()",
+            "while True: pass",
+        )
+        self.assertEqual(outcome, (6, b"", "it: stopped\n"))
+
+    def test_a_signal_after_the_end(self) -> None:
+        outcome = self.ended(
+            "from pops_companions import command\n"
+            "import atexit\n"
+            "atexit.register(os.kill, os.getpid(), signal.SIGTERM)\n"
+            "command.run('it', lambda words: 1)"
+        )
+        self.assertEqual(outcome, (1, b"", ""))
+
     def test_no_more_threads(self) -> None:
         outcome = self.run_of("raise RuntimeError(\"can't start new thread\")")
         said = "it: no more threads can be started: a limit of the machine\n"

@@ -5,6 +5,7 @@ import io
 import os
 import pty
 import re
+import select
 import signal
 import subprocess
 import sys
@@ -12,19 +13,18 @@ import tempfile
 import threading
 import time
 import unittest
-from concurrent.futures import ThreadPoolExecutor
 from pathlib import Path
 from unittest import mock
 
 from pops_companions.commands.many import name_of_run
 from pops_companions.many import sessions
-from pops_companions.many.local import as_ended, run_locally
+from pops_companions.many.local import in_threads, run_locally
 from pops_companions.many.program import Program, RunError
 from pops_companions.many.progress import Progress
 from pops_companions.many.tasks import Source, tasks_of
 from tests import run_here, support
 from tests.made_clock import made_clock
-from tests.six_problems import SixProblems, has_worked, wait_for
+from tests.six_problems import SIX, SixProblems, has_worked, wait_for
 
 WAITS = "sleep 6000 & sleep 6001"
 
@@ -109,6 +109,21 @@ class Signals(SixProblems):
         self.assertIsNone(run.poll())
         run.send_signal(signal.SIGTERM)
         run.communicate(timeout=support.PATIENCE)
+        self.assertEqual(run.returncode, 6)
+
+    def test_a_reader_that_reads_nothing(self) -> None:
+        problems = self.room / "many.pop"
+        body = SIX.removeprefix(b"BeginProblem").removesuffix(b"EndProblem\n")
+        problems.write_bytes(b"BeginProblem" + b"NextProblem".join([body] * 300) + b"EndProblem\n")
+        reading, writing = os.pipe()
+        self.addCleanup(os.close, reading)
+        self.addCleanup(os.close, writing)
+        words = [sys.executable, str(support.COMPANIONS / "pops-many"), "--pops", support.pops()]
+        words += ["--journal", str(self.journal), str(problems)]
+        with subprocess.Popen(words, stdout=writing, stderr=subprocess.PIPE) as run:
+            wait_for(lambda: not select.select([], [writing], [], 0)[1])
+            run.send_signal(signal.SIGTERM)
+            self.assertIn(b"stopped\n", run.communicate(timeout=support.PATIENCE)[1])
         self.assertEqual(run.returncode, 6)
 
     def test_a_terminal_that_was_closed_takes_no_message_and_harms_nothing(self) -> None:
@@ -280,15 +295,14 @@ class Waits(unittest.TestCase):
         mask = signal.pthread_sigmask(signal.SIG_BLOCK, [signal.SIGUSR1])
         self.addCleanup(signal.pthread_sigmask, signal.SIG_SETMASK, mask)
 
-        def send() -> bool:
+        def send() -> None:
             time.sleep(0.2)
             signal.pthread_sigmask(signal.SIG_UNBLOCK, [signal.SIGUSR1])
             os.kill(os.getpid(), signal.SIGUSR1)
-            return heard.wait(support.PATIENCE)
+            heard.wait(support.PATIENCE)
 
-        with ThreadPoolExecutor(1) as pool:
-            (future,) = as_ended([pool.submit(send)])
-        self.assertTrue(future.result())
+        in_threads(send, 1, heard.set)
+        self.assertTrue(heard.is_set())
 
 
 class LastLine(unittest.TestCase):

@@ -9,7 +9,7 @@ from collections.abc import Iterable
 from pathlib import Path
 from typing import Optional, Union
 
-from pops_companions import command
+from pops_companions import command, interrupts
 from pops_companions.chess.stipulation import Play
 from pops_companions.command import DeviceError, Status, flag, option, word
 from pops_companions.input.given import GivenProblem, given_problems
@@ -290,9 +290,10 @@ def printed(words: list[str], room: str) -> Outcome:
     held = ["/bin/sh", "-c", 'read -r _ && exec "$@"', "sh", *words]
     refuse_unlisted(held[0])
     child = ChildProcess(held, subprocess.PIPE, subprocess.PIPE, environment)
-    with sessions.Watcher(child.run.pid, room):
+    with interrupts.held() as as_before, sessions.Watcher(child.run.pid, room):
         try:
-            return child.outcome(b"\n")
+            with as_before():
+                return child.outcome(b"\n")
         finally:
             sessions.end(child.run.pid)
 

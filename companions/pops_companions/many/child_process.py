@@ -26,6 +26,7 @@ from collections.abc import Callable, Generator, Sequence
 from contextlib import closing, suppress
 from typing import IO, NamedTuple, Optional, Union
 
+from pops_companions import interrupts
 from pops_companions.many import sessions
 from pops_companions.many.linked import starts_none
 
@@ -38,6 +39,8 @@ _SET_ROOM, _GET_ROOM = 1031, 1032
 # What a run writes is read after pauses of this many milliseconds, unless it ends sooner or writes
 # much: it writes line by line, and waking for each line would cost more than the search.
 PAUSE = 20
+# After this many seconds of a wait that takes locks signals are heeded.
+_MOMENT = 0.5
 # The number of standard error.
 _LAST_STREAM = 2
 # The processor time after which a program ends that outlives its seconds, in seconds beyond them.
@@ -136,26 +139,25 @@ class ChildProcess:
         self._has_others = not starts_none(words[0])
         self._mark = sessions.new_mark() if self._has_others else ""
         self._pipe = sessions.name_of_pipe(self._watched)
-        if self._mark:
-            environment = {**(environment or os.environ), self._mark: "1"}
         self.is_killed = self._is_released = False
         try:
-            # (it may start others before its session is named)
-            if self._has_others:
-                self._watcher = sessions.Watcher(0, "", self._mark, self._pipe)
-            self.run = subprocess.Popen(
-                [_plain(words[0]), *words[1:]],
-                executable=words[0],
-                stdin=source,
-                stdout=output,
-                stderr=errors,
-                env=environment,
-                pass_fds=(self._watched,),
-                start_new_session=True,
-            )
-            killed_with_holder(self._watched, -self.run.pid)
-            if self._watcher is not None:
-                self._watcher.watch(self.run.pid)
+            with interrupts.held():
+                # (it may start others before its session is named)
+                if self._has_others:
+                    self._watcher = sessions.Watcher(0, "", self._mark, self._pipe)
+                self.run = subprocess.Popen(
+                    [_plain(words[0]), *words[1:]],
+                    executable=words[0],
+                    stdin=source,
+                    stdout=output,
+                    stderr=errors,
+                    env={**(environment or os.environ), self._mark: "1"} if self._mark else environment,
+                    pass_fds=(self._watched,),
+                    start_new_session=True,
+                )
+                killed_with_holder(self._watched, -self.run.pid)
+                if self._watcher is not None:
+                    self._watcher.watch(self.run.pid)
         except BaseException:
             self._break_off()
             raise
@@ -234,17 +236,23 @@ class ChildProcess:
                 yield from ((stream, rest_of(handle)) for handle, stream in streams.items())
             is_read = True
         finally:
-            if not is_read or self.is_killed:
-                self.end()
-            for opened in (self.run.stdout, self.run.stderr):
-                if opened is not None:
-                    opened.close()
-            self.release()
+            with interrupts.held():
+                if not is_read or self.is_killed:
+                    self.end()
+                for opened in (self.run.stdout, self.run.stderr):
+                    if opened is not None:
+                        opened.close()
+                self.release()
 
     def _end_in(self, milliseconds: Optional[float]) -> list[tuple[int, int]]:
         """Waits for the program's end, for some time at most; nothing has come then."""
-        with suppress(subprocess.TimeoutExpired):
-            self.run.wait(None if milliseconds is None else milliseconds / 1000)
+        if milliseconds is None:
+            # (it takes no lock, so that a signal may break it off)
+            with suppress(ChildProcessError):
+                os.waitid(os.P_PID, self.run.pid, os.WEXITED | os.WNOWAIT)
+        most = _MOMENT if milliseconds is None else min(milliseconds / 1000, _MOMENT)
+        with interrupts.held(), suppress(subprocess.TimeoutExpired):
+            self.run.wait(most)
         return []
 
     def _left(self, until: Optional[float]) -> Optional[float]:
@@ -275,7 +283,8 @@ class ChildProcess:
         if len(text) <= _ROOM or has_room(self.run.stdin, len(text)):
             self._feed(text)
         else:
-            threading.Thread(target=self._feed, args=(text,), daemon=True).start()
+            with interrupts.held():
+                threading.Thread(target=self._feed, args=(text,), daemon=True).start()
 
     def _feed(self, text: bytes) -> None:
         assert self.run.stdin is not None

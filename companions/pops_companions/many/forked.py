@@ -14,9 +14,9 @@ from multiprocessing import Pipe
 from multiprocessing.connection import Connection, wait
 from typing import Any, Optional
 
+from pops_companions.interrupts import SIGNALS
 from pops_companions.many.child_process import killed_with_holder, pipe_of_others
 
-_SIGNALS = (signal.SIGINT, signal.SIGTERM, signal.SIGHUP)
 # The pieces for each copy that may be done before an earlier one is.
 _MOST_AHEAD = 4
 # On how many copies a piece is tried that ends them.
@@ -69,12 +69,12 @@ class _Copy:
 
 def _forked(serve: Callable[[], None]) -> int:
     """Returns the process of a copy that does nothing but this, and whose signals end it at once."""
-    before = signal.pthread_sigmask(signal.SIG_BLOCK, _SIGNALS)
+    before = signal.pthread_sigmask(signal.SIG_BLOCK, SIGNALS)
     try:
         process = os.fork()
         if process == 0:
             try:
-                for sign in _SIGNALS:
+                for sign in SIGNALS:
                     if signal.getsignal(sign) is not signal.SIG_IGN:
                         signal.signal(sign, signal.SIG_DFL)
                 signal.pthread_sigmask(signal.SIG_SETMASK, before)

@@ -2,29 +2,25 @@
 
 import threading
 import time
-from collections.abc import Callable, Collection, Iterator, Sequence
+from collections import deque
+from collections.abc import Callable, Iterable, Sequence
 from concurrent.futures import FIRST_COMPLETED, Future, ThreadPoolExecutor, wait
 from typing import TypeVar
 
+from pops_companions import interrupts
+from pops_companions.command import drop_output
 from pops_companions.many.bundles import Bundles
 from pops_companions.many.program import OutputRunError, Program, RunError
 from pops_companions.many.tasks import Result, Task
 
 # How often a run that fails is tried in all.
 TRIES = 2
-# After this many seconds without an end `wait_on` is called, to show that time passes.
+# After this many seconds without an end signals are heeded, and `wait_on` is called: time passes.
 _SECONDS_OF_SILENCE = 0.5
+# The seconds that threads have to end, once they are stopped.
+_SECONDS_TO_END = 3.0
+Given = TypeVar("Given")
 Found = TypeVar("Found")
-
-
-def as_ended(futures: Collection["Future[Found]"]) -> Iterator["Future[Found]"]:
-    """Yields futures as they end. Each wait is short: Python heeds a signal that comes as one begins only
-    after it.
-    """
-    left = set(futures)
-    while left:
-        found, left = wait(left, _SECONDS_OF_SILENCE, FIRST_COMPLETED)
-        yield from found
 
 
 def in_threads(
@@ -35,19 +31,51 @@ def in_threads(
 ) -> None:
     """Does a work in this many threads, and waits for their ends. If the work fails in one, or the wait is
     broken off, `stop` ends it in all.
+
+    Signals are heeded between short waits: one that broke off a wait could leave locks taken.
     """
-    with ThreadPoolExecutor(max(number, 1)) as threads:
+    with interrupts.held() as as_before, ThreadPoolExecutor(max(number, 1)) as threads:
+        left: set[Future[None]] = set()
         try:
             left = {threads.submit(work) for _ in range(number)}
             while left:
                 ended, left = wait(left, _SECONDS_OF_SILENCE, FIRST_COMPLETED)
                 for future in ended:
                     future.result()
-                if not ended:
-                    wait_on()
+                with as_before():
+                    if not ended:
+                        wait_on()
         except BaseException:
             stop()
+            if wait(left, _SECONDS_TO_END).not_done:
+                # (nobody reads what one writes, it seems)
+                drop_output()
             raise
+
+
+def for_each(
+    some: Iterable[Given],
+    work: Callable[[Given], Found],
+    jobs: int,
+    stop: Callable[[], None],
+    take: Callable[[Given, Found], None],
+) -> None:
+    """Does a work on each of some in threads, as `in_threads` does. `take` gets each with what was found;
+    only one thread is in it at a time.
+    """
+    waiting, lock = deque(some), threading.Lock()
+
+    def go_through() -> None:
+        while True:
+            with lock:
+                if not waiting:
+                    return
+                one = waiting.popleft()
+            found = work(one)
+            with lock:
+                take(one, found)
+
+    in_threads(go_through, min(jobs, len(waiting)), stop)
 
 
 class _Solving:

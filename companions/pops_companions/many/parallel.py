@@ -17,6 +17,7 @@ from collections.abc import Callable, Iterable, Iterator, Sequence
 from pathlib import Path
 from typing import IO, NamedTuple, Optional
 
+from pops_companions import interrupts
 from pops_companions.command import DeviceError
 from pops_companions.many import sessions
 from pops_companions.many.child_process import (
@@ -165,11 +166,12 @@ class Parallel:
             _write_logins(room, logins)
             child = self._started(room, jobs, self._connections.options if shared else "")
             is_stopped = threading.Event()
-            with sessions.Watcher(child.run.pid, name):
+            with interrupts.held() as as_before, sessions.Watcher(child.run.pid, name):
                 looks = threading.Thread(target=_look, args=(child, room, logins, look, is_stopped))
                 looks.start()
                 try:
-                    _take_all(child, take)
+                    with as_before():
+                        _take_all(child, take)
                 finally:
                     looks.join()
                     assert child.run.stdout is not None

@@ -8,6 +8,8 @@ from collections.abc import Callable, Iterator, Sequence
 from contextlib import contextmanager
 from typing import BinaryIO, NamedTuple, Optional, TypeVar
 
+from pops_companions import interrupts
+
 Read = TypeVar("Read")
 _SECONDS_BETWEEN = 0.5
 # Where standard error is no terminal.
@@ -103,12 +105,14 @@ class Progress:
                 self.wait_on()
 
         heart = threading.Thread(target=beat, daemon=True)
-        heart.start()
-        try:
-            yield
-        finally:
-            ended.set()
-            heart.join()
+        with interrupts.held() as as_before:
+            heart.start()
+            try:
+                with as_before():
+                    yield
+            finally:
+                ended.set()
+                heart.join()
 
     def line(self, seconds: float) -> str:
         """Returns the line after `seconds` of this run."""

@@ -14,7 +14,7 @@ import sys
 import threading
 import time
 from collections.abc import Callable, Collection, Iterable, Iterator
-from contextlib import contextmanager, suppress
+from contextlib import AbstractContextManager, contextmanager, suppress
 
 _SECONDS_BETWEEN = 0.05
 _ROUNDS = 100
@@ -189,16 +189,20 @@ def passing_folder(prefix: str) -> Iterator[str]:
     import shutil
     import tempfile
 
-    folder = tempfile.mkdtemp(prefix=prefix)
-    try:
-        yield folder
-    finally:
+    with _held() as as_before:
+        folder = tempfile.mkdtemp(prefix=prefix)
         try:
+            with as_before():
+                yield folder
+        finally:
             shutil.rmtree(folder, ignore_errors=True)
-        except KeyboardInterrupt:
-            # (the next signal raises nothing)
-            shutil.rmtree(folder, ignore_errors=True)
-            raise
+
+
+def _held() -> AbstractContextManager[Callable[[], AbstractContextManager[None]]]:
+    # (the package isn't found where this module is run as a program)
+    from pops_companions import interrupts
+
+    return interrupts.held()
 
 
 class Watcher:
@@ -215,10 +219,11 @@ class Watcher:
         self._session = session
         self._lock = threading.Lock()
         self._is_over = False
-        self._run = self._started()
-        # (where there are no more threads, nobody sees to it)
-        with suppress(RuntimeError):
-            threading.Thread(target=self._replace, daemon=True).start()
+        with _held():
+            self._run = self._started()
+            # (where there are no more threads, nobody sees to it)
+            with suppress(RuntimeError):
+                threading.Thread(target=self._replace, daemon=True).start()
 
     def __enter__(self) -> None:
         pass
@@ -256,7 +261,7 @@ class Watcher:
 
     def close(self) -> None:
         """Ends the watch. (Killed before its input ends, the process does nothing.)"""
-        with self._lock:
+        with _held(), self._lock:
             self._is_over = True
             self._run.kill()
             self._run.communicate()

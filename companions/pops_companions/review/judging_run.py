@@ -7,7 +7,6 @@ import io
 import os
 import sys
 from collections.abc import Callable, Iterable, Iterator, Sequence
-from concurrent.futures import ThreadPoolExecutor
 from contextlib import contextmanager, redirect_stderr, suppress
 from dataclasses import dataclass, replace
 from pathlib import Path
@@ -22,7 +21,7 @@ from pops_companions.input.pieces import cut
 from pops_companions.input.writing import text_of_problems
 from pops_companions.many.identity import Known
 from pops_companions.many.journal import is_begun
-from pops_companions.many.local import as_ended
+from pops_companions.many.local import for_each
 from pops_companions.many.program import RunError
 from pops_companions.many.tries_program import TriesProgram
 from pops_companions.report.lines import in_a_line
@@ -237,14 +236,14 @@ class Work:
             if problem.stipulation is not None and problem.stipulation.play is not Play.HELP
         ]
         jobs = self._runs.jobs or len(os.sched_getaffinity(0))
-        with ThreadPoolExecutor(jobs) as pool:
-            try:
-                futures = [pool.submit(self._tries_of, program, one) for one in wanted]
-                found = [future.result() for future in as_ended(futures)]
-            except BaseException:
-                program.stop()
-                raise
-        return {item.number: item for item in found if item is not None}
+        found: dict[int, TriesItem] = {}
+
+        def take(one: _Wanted, item: Optional[TriesItem]) -> None:
+            if item is not None:
+                found[one.problem.number] = item
+
+        for_each(wanted, lambda one: self._tries_of(program, one), jobs, program.stop, take)
+        return found
 
     def _tries_of(self, program: TriesProgram, wanted: "_Wanted") -> Optional[TriesItem]:
         """Returns what pops-tries shows of a problem; its text is kept for a run that goes on.

@@ -3,15 +3,14 @@
 import io
 import os
 from collections.abc import Sequence
-from concurrent.futures import Future, ThreadPoolExecutor
 from dataclasses import replace
 from typing import Optional
 
 from pops_companions.command import DeviceError
 from pops_companions.input.pieces import cut
 from pops_companions.many.child_process import MOST_OUTPUT, wrote_more
-from pops_companions.many.local import as_ended, run_locally
-from pops_companions.many.program import Program, RunError
+from pops_companions.many.local import for_each, run_locally
+from pops_companions.many.program import Program
 from pops_companions.many.progress import Progress
 from pops_companions.many.tasks import UNFINISHED, Result, Source, tasks_of
 from pops_companions.many.tries_program import TriesProgram
@@ -62,24 +61,19 @@ class Solving:
         progress = Progress(f"{self._companion}: tries")
         progress.begin(0, len(wanted))
         texts: dict[int, Optional[bytes]] = {}
-        with ThreadPoolExecutor(self._jobs) as pool:
-            number_of: dict[Future[Optional[bytes]], int] = {}
-            try:
-                for number in wanted:
-                    problem = pieces[number].alone(self._text, False)
-                    number_of[pool.submit(program.text_of, problem)] = number
-                with progress.beating():
-                    for future in as_ended(number_of):
-                        texts[number_of[future]] = future.result()
-                        progress.more()
-            except RunError as error:
-                program.stop()
-                raise DeviceError(str(error)) from None
-            except BaseException:
-                program.stop()
-                raise
-            finally:
-                progress.end()
+
+        def text_of(number: int) -> Optional[bytes]:
+            return program.text_of(pieces[number].alone(self._text, False))
+
+        def take(number: int, text: Optional[bytes]) -> None:
+            texts[number] = text
+            progress.more()
+
+        try:
+            with progress.beating():
+                for_each(wanted, text_of, self._jobs, program.stop, take)
+        finally:
+            progress.end()
         found = {number: _item_of(text, number) for number, text in texts.items() if text is not None}
         return found, [number for number in wanted if texts[number] is None]
 
