@@ -10,8 +10,8 @@ from pops_companions.report.lines import in_a_line
 _OF_FORMULAS = ("=", "+", "-", "@")
 _ENDS_OF_CELLS = ("\t", "\r", "\n")
 # Parts cells for a reader that takes no comma for an end: to it a quote after a comma is none.
-_PARTING = re.compile("([;\t\r\n])")
-_PARTING_IN_A_ROW = re.compile("([,;\t\r\n])")
+_PARTING = re.compile("([;\t\r\n\u2028\u2029])")
+_PARTING_IN_A_ROW = re.compile("([,;\t\r\n\u2028\u2029])")
 
 
 def row_of(cells: Iterable[object]) -> str:

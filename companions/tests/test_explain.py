@@ -9,13 +9,14 @@ import unittest
 from pathlib import Path
 from unittest import mock
 
-from pops_companions.explain.explaining import ExplainedFault, explain
+from pops_companions.explain import wordings
+from pops_companions.explain.explaining import ExplainedFault, explain, explanation
 from pops_companions.explain.mending import further_faults
 from pops_companions.explain.showing import marked
 from pops_companions.explain.vocabulary import foreign
 from pops_companions.import_.language import foreign_words
 from pops_companions.input.pieces import cut
-from pops_companions.input.reading import Reading
+from pops_companions.input.reading import Reading, read_piece
 from pops_companions.input.words import Word
 from pops_companions.report.reader import read_report
 from tests import made_inputs, support
@@ -72,6 +73,13 @@ class Costs(unittest.TestCase):
         self.assertGreater(len(faults), 20)
         self.assertLess(len(calls), 20 * len(faults))
 
+    def test_a_word_longer_than_any_name_is_compared_with_none(self) -> None:
+        """It would take long: each letter is compared with each of every name."""
+        for letters, is_compared in ((150, False), (12, True)):
+            text = b"BeginProblem\nOption " + b"x" * letters + b"\nEndProblem\n"
+            with mock.patch.object(wordings, "_distances", wraps=wordings._distances) as distances:
+                explanation(text, read_piece(text, cut(text)[0]))
+            self.assertEqual(bool(distances.call_count), is_compared, letters)
 
     def test_an_empty_problem_has_no_faults_of_the_next(self) -> None:
         text = b"Beg " + b"Next " * 60

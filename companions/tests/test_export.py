@@ -393,6 +393,20 @@ stipulation: "h#1"
         back = run_here.companion("pops-import", text=text.encode())
         self.assertEqual(exported("yaml", text=back.output), text)
 
+    def test_each_origin_stays_a_line(self) -> None:
+        head, tail = "BeginProblem\n", f"{MEN}\nEndProblem\n"
+        for origins in (
+            ("Die Schwalbe, August 1977", "Problem 1978", "Z; 3, 1979"),
+            ("first 1", "second; 1999", "third"),
+            ("null", "~", "[a", "2000", "- x"),
+        ):
+            with self.subTest(origins):
+                given = head + "".join(f"Origin {it}\n" for it in origins) + "Remark a note\n" + tail
+                text = exported("yaml", text=given.encode())
+                self.assertEqual(nodes(text)[0]["origins"], list(origins[1:]))
+                back = run_here.companion("pops-import", text=text.encode())
+                self.assertEqual((back.output.decode(), back.error), (given, ""))
+
     def test_a_list_of_one_stays_a_list(self) -> None:
         yaml = b"""---
 keywords: [Grimshaw]

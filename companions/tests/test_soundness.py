@@ -476,22 +476,21 @@ class Collection(unittest.TestCase):
 
     def test_csv_has_nothing_that_is_computed_after_a_tab(self) -> None:
         """For readers that part cells at tabs, or lines at other signs, and know no quotes in them."""
-        titles = ("a\t=1+1", "b\t=1", "a\t\t@b\t+1", "a\r-1", "a;\t=1", 'a\t"=1', "a\tb=1")
+        titles = ("a\t=1+1", "b\t=1", "a\t\t@b\t+1", "a\r-1", "a;\t=1", 'a\t"=1', "a\u2028=1", "\u3000\u2029-1", "a\tb=1")
         items = (f"problem {it}\ntitle: {title}\nauthor: {title}\n#1\nsound\n\n" for it, title in enumerate(titles, 1))
         said = run_here.companion("pops-test", "--csv", text="".join(items).encode()).output.decode()
-        for cell in re.split("[;\t\r\n]", said):
+        for cell in re.split("[;\t\r\n\u2028\u2029]", said):
             self.assertNotRegex(cell, '^"*[=+@-]')
         cells = [row["title"] for row in csv.DictReader(io.StringIO(said, newline=""))]
-        self.assertEqual([cells[place] for place in (0, 6)], ["a\t'=1+1", "a\tb=1"])
+        self.assertEqual([cells[0], cells[-1]], ["a\t'=1+1", "a\tb=1"])
 
     def test_csv_has_nothing_unseen_before_what_a_spreadsheet_computes(self) -> None:
-        titles = ("\u200b=1", "\ufeff=1", "\u2028=1", "\xa0=1", "\u200b \ufe62", "\ufe66", "\u200ba")
+        titles = ("\u200b=1", "\ufeff=1", "\u3000=1", "\xa0=1", "\u200b \ufe62", "\ufe66", "\u200ba")
         items = (f"problem {it}\ntitle: {title}\n#1\nsound\n\n" for it, title in enumerate(titles, 1))
         text = "".join(items).encode()
         said = run_here.companion("pops-test", "--csv", text=text).output.decode()
         cells = [row["title"] for row in csv.DictReader(io.StringIO(said, newline=""))]
         self.assertEqual(cells, [*(f"'{title}" for title in titles[:-1]), titles[-1]])
-        self.assertIn('"\'\u2028=1"', said)
 
     def test_csv(self) -> None:
         rows = list(csv.DictReader(io.StringIO(self.judged("--csv").output.decode())))

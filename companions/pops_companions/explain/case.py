@@ -13,7 +13,7 @@ from pops_companions.input.words import LONGEST_WORD, TEXT_WORDS, Span, TextLine
 _LONGEST_QUOTED = 48
 # The word before is looked for in this many bytes.
 _NEAR = 400
-_LAST_WORD = re.compile(rb"([^\t\n\x0b\x0c\r ]+)[\t\n\x0b\x0c\r ]+$")
+_LAST_WORD = re.compile(rb"(?<![^\t\n\x0b\x0c\r ])([^\t\n\x0b\x0c\r ]+)[\t\n\x0b\x0c\r ]+$")
 NAMES = (*COMMANDS, *TEXT_WORDS, *CONDITIONS, *OPTIONS, "White", "Black")
 Value = TypeVar("Value")
 

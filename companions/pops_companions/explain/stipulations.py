@@ -24,10 +24,9 @@ _WITHOUT_GOAL = ("h", "s")
 _A_NUMBER = "|".join(["[1-9][0-9]*(?:½| 1/2|[.,]5)?", *_NUMBERS])
 # As `mate in 2 moves`, `help mate in 2½`, `s 3`: how the play is called, and the number.
 _IN_WORDS = re.compile(
-    rf"((?:help|self)[- ]?mate|[a-z]+?)[-# ]*(?:in|en)?[- ]*({_A_NUMBER})"
+    rf"((?:help|self)[- ]?mate|[a-z]+?)[-# ]*(?:(?:in|en)[- ]*)?({_A_NUMBER})"
     r"(?: (?:moves?|zügen?|coups?))?[.,;:!]*(?= |$)"
 )
-_AROUND = re.compile(r"""^[(\["']+|[)\]"'.,;:!?]+$""")
 _MOST_WORDS = 6
 # As `#two`.
 _NUMBER_IN_WORDS = re.compile(rf"([sh]?[#=])({'|'.join(_NUMBERS)})[.,;:]*")
@@ -75,7 +74,7 @@ def bad_stipulation(case: Case) -> Iterator[Optional[Explanation]]:
 
 def _bare(word: str) -> str:
     """Returns a word without the brackets, quotation marks and stops around it."""
-    return _AROUND.sub("", word)
+    return word.lstrip("([\"'").rstrip(")]\"'.,;:!?")
 
 
 def _half(case: Case) -> Optional[Explanation]:
@@ -141,7 +140,7 @@ def _wrong_number(case: Case, stipulation: str) -> Optional[Explanation]:
 
 
 def _star(case: Case) -> Optional[Explanation]:
-    found = re.fullmatch(r"(.*?)\*+(.*)", re.sub(",5(?=\\*)|½", ".5", _bare(case.plain)))
+    found = re.fullmatch(r"([^*]*)\*+(.*)", re.sub(",5(?=\\*)|½", ".5", _bare(case.plain)))
     if found is None or not case.fits(found[1] + found[2]):
         return None
     # (`#*2` may have a sign too many)
@@ -195,7 +194,7 @@ def _said_in_words(case: Case, words: Sequence[Word], begin: int = 0) -> Optiona
             return _wrong_number(case, whole)
         spans = [it.span for it in words[: begin + found[0].count(" ") + 1]]
         return case.tells("in_words", *spans, whole=whole)
-    sign = _WORDS.get(re.sub("[-#]+$", "", case.plain.lower()))
+    sign = _WORDS.get(case.plain.lower().rstrip("-#"))
     if sign is None or sign in _WITHOUT_GOAL:
         return None
     return case.tells("in_words_as", sign=sign)

@@ -10,13 +10,13 @@ from pops_companions.explain.characters import decoded
 from pops_companions.explain.sentences import DATA
 
 # As 2.1.1.1, 2.1.., 3.1;1.1 and 0.2.1.1; not 2 alone.
-_COUNTS = re.compile(r"\(?[0-9]{1,3}(?:[.,;]+[0-9]{1,3})*[.,;]*\)?[.,;]*")
+_COUNTS = re.compile(r"\(?[0-9]{1,3}(?:[.,;]+[0-9]{1,3})*[.,;]*(?:\)[.,;]*)?")
 _HALF = re.compile(r"^(h[#=][0-9]+)(?:,5(?![0-9]|\.[0-9])|½)", re.IGNORECASE)
 _OR_ANOTHER = re.compile(r"^[^0-9]*[0-9]+[,;:/(\[]+[0-9]+$")
 _OF_MEN = re.compile(r"\(?[0-9]{1,2}(?:\+[0-9]{1,2}){1,2}\)?[.,;]*")
-_JOINED = re.compile(r"(.+?)[;:,(\[/]+([0-9]+(?:[.,;][0-9]+)*)[.,;]*[)\]]?")
+_JOINED = re.compile(r"(.*?[^;:,(\[/])[;:,(\[/]+([0-9]+(?:[.,;][0-9]+)*)[.,;]*[)\]]?")
 _OF_SOLUTIONS = re.compile(
-    rf"\(?([1-9][0-9]{{0,3}}) ?(?:{DATA['stipulations']['solutions']})[.,;]*\)?[.,;]*", re.IGNORECASE
+    rf"\(?([1-9][0-9]{{0,3}}) ?(?:{DATA['stipulations']['solutions']})[.,;]*(?:\)[.,;]*)?", re.IGNORECASE
 )
 
 

@@ -15,14 +15,17 @@ from pops_companions.input.words import TEXT_WORDS, named
 _SIGNS: dict[str, str] = DATA["signs"]
 _SIGN = "[" + re.escape("".join(_SIGNS)) + "]"
 # (`h#.5` isn't h#5)
-_OF_A_NUMBER = re.compile(f"[0-9]{_SIGN}+[0-9]|[#=]{_SIGN}*[.,:;]{_SIGN}*[0-9]")
+_OF_A_NUMBER = re.compile(f"[0-9]{_SIGN}+[0-9]|[#=](?:(?![.,:;]){_SIGN})*[.,:;]{_SIGN}*[0-9]")
 _FROM_TO = re.compile("([a-h])([1-8])([-–—.,…<>→/]+)([a-h])([1-8])", re.IGNORECASE)
 _COMMENT = re.compile(r"(#(?![0-9=])|%|//|/\*|\*|;|--|<!--|\{|!|\")")
 # As in Variationen.
 _LONGEST_ENDING = 3
+_LONGEST_NAME = max(len(name) for name in NAMES)
+# How many letters of a word may be wrong.
+_MOST_CHANGED = 2
 # Squares that are the man's, or a pawn's without its letter.
 _MAY_BE_PAWN = re.compile(
-    f"([{LETTERS[1:].replace('P', '')}])(?:[a-h][1-8])+.*?[^A-Za-z0-9-]+([a-h][2-7])(?![a-z])",
+    f"([{LETTERS[1:].replace('P', '')}])[a-h][1-8].*?[^A-Za-z0-9-]([a-h][2-7])(?![a-z])",
     re.IGNORECASE,
 )
 _THOUSANDS = re.compile("[0-9]{1,3}(?: [0-9]{3})+")
@@ -51,11 +54,11 @@ def invisible(case: Case) -> Optional[Explanation]:
     return case.tells("invisible", name=characters.name_of(odd), looks=looks, cure=cure)
 
 
-def _is_one_word(text: str) -> bool:
-    """Returns whether the blanks of a text can't be meant: `h#1 5` may be h#1 or h#15."""
-    if re.search("[0-9] +[0-9]", text) and not _THOUSANDS.fullmatch(text):
+def _is_one_word(blanks: str) -> bool:
+    """Returns whether blanks in place of a word's signs can't be meant: `h#1 5` may be h#1 or h#15."""
+    if re.search("[0-9] +[0-9]", blanks) and not _THOUSANDS.fullmatch(blanks):
         return False
-    return _MAY_BE_PAWN.search(text) is None
+    return _MAY_BE_PAWN.search(blanks) is None
 
 
 def pawn_or_square(case: Case) -> Optional[Explanation]:
@@ -99,7 +102,7 @@ def comment(case: Case) -> Optional[Explanation]:
 
 def without_signs(word: str) -> str:
     """Returns a word without the punctuation around it."""
-    return re.sub(f"^{_SIGN}+|{_SIGN}+$", "", word)
+    return word.strip("".join(_SIGNS))
 
 
 def signs(case: Case) -> Optional[Explanation]:
@@ -253,10 +256,11 @@ def too_short(case: Case) -> Optional[Explanation]:
 def misspelt(case: Case) -> Optional[Explanation]:
     """Explains a word that is nearly one of pops, also with signs around it."""
     word = without_signs(case.plain).lower()
-    if len(word) < 3 or _goes_on(case, word[-1]):
+    # (a longer word differs from each name in more letters)
+    if not 3 <= len(word) <= _LONGEST_NAME + _MOST_CHANGED or _goes_on(case, word[-1]):
         return None
     best = min(case.names_here(), key=lambda name: _nearness(word, name), default=None)
-    if best is None or _nearness(word, best) > (1 if len(word) < 6 else 2):
+    if best is None or _nearness(word, best) > (1 if len(word) < 6 else _MOST_CHANGED):
         return None
     # (a digit may be of what was beside it; `0ption` is as long)
     digits = set(re.findall("[0-9]", word))

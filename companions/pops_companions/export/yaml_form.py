@@ -39,7 +39,7 @@ def yaml_of(problems: Iterable[Exported], items: Mapping[int, SoundItem]) -> Ite
 
 def _document(one: Exported, items: Mapping[int, SoundItem]) -> Iterator[str]:
     problem = one.problem
-    origin = "; ".join(problem.origins)
+    origin, *more_origins = problem.origins or ("",)
     remarks: Sequence[str] = problem.remarks
     parted = source_of(origin, remarks) if origin else None
     if parted is not None:
@@ -54,6 +54,8 @@ def _document(one: Exported, items: Mapping[int, SoundItem]) -> Iterator[str]:
         yield from _origin(parted[0])
     elif origin:
         yield f"source: {_quoted(origin)}"
+    if more_origins:
+        yield from _list("origins", more_origins)
     yield "algebraic:"
     men: dict[Colour, list[str]] = {}
     for square, man in men_in(problem.pieces):

@@ -16,6 +16,8 @@ from pops_companions.import_.yaml_text import Node, Scalar, YamlError, documents
 _COLOURS = ("white", "black", "neutral")
 # The keys of one line, with what their texts are.
 _ORIGIN = {"source": "name", "date": "date"}
+# The key of other places where the problem was published, a line each.
+_MORE_ORIGINS = "origins"
 # The twin that stands in place of the position itself.
 _FIRST_TWIN = "a"
 # The longest names of twins, and of values that become Remarks, each of which repeats its name.
@@ -62,7 +64,7 @@ def _problems_in(node: Node) -> list[Node]:
 
 def _read_key(key: str, value: Node, draft: Draft) -> None:
     # (source and date are read together, after all keys)
-    if key.lower() in _ORIGIN:
+    if key.lower() in (*_ORIGIN, _MORE_ORIGINS):
         return
     readers = {
         "title": _read_names,
@@ -122,14 +124,18 @@ def _read_names(key: str, value: Node, draft: Draft) -> None:
 
 
 def _read_origin(keys: dict[str, Node], draft: Draft) -> None:
-    """Source and date, which are one line."""
+    """Reads source and date, which are one line, and further origins, which are one each."""
     parts: list[tuple[str, str]] = []
+    more: list[TextLine] = []
     for key, value in keys.items():
-        if key.lower() in _ORIGIN:
+        if key.lower() == _MORE_ORIGINS:
+            more += [TextLine("Origin", text.replace("\n", " ")) for text in _texts(value)]
+        elif key.lower() in _ORIGIN:
             parts.extend(_parts_of_origin(_ORIGIN[key.lower()], value))
     line, rest = origin_of(parts)
     if line:
         draft.texts.append(TextLine("Origin", line))
+    draft.texts.extend(more)
     if rest:
         draft.texts.append(TextLine("Remark", f"source: {rest}"))
 

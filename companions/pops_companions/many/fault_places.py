@@ -6,7 +6,7 @@ from pops_companions.command import DeviceError
 from pops_companions.input.words import Span
 from pops_companions.many.program import FAULTY, SOUND, Runs, find_part_program
 
-_LISTED = re.compile(rb"(\d+): fault \d+, line \d+, bytes (\d+) up to (\d+)\n")
+_LISTED = re.compile(rb"(?<!\d)(\d+): fault \d+, line \d+, bytes (\d+) up to (\d+)\n")
 
 
 def places_of(text: bytes, pops: str) -> dict[int, Span]:

@@ -15,7 +15,7 @@ _SCRIPT = b"#!"
 _LONGEST = 1 << 16
 _MOST = 64
 # A word of a script, which names a program by its path, or by a name that begins with "pops".
-_WORD = re.compile(rb"[^\s\0'\"`;|&()<>={}$]*/[^\s\0'\"`;|&()<>={}$]+|\bpops[\w.-]*")
+_WORD = re.compile(rb"(?<![^\s\0'\"`;|&()<>={}$])[^\s\0'\"`;|&()<>={}$]*/[^\s\0'\"`;|&()<>={}$]+|\bpops[\w.-]*")
 # The last parts of a path that may follow what only the shell knows, as `$here`.
 _MOST_PARTS = 6
 # The scripts of a repository, in place of which their programs are noted.

@@ -22,7 +22,7 @@ from pops_companions.show.twins import Group, Twin
 NOT_IN_REPORT = "not in the report"
 # What pops-import makes of an award: `Award 1st Prize`, `award: 1st Prize`,
 # `award.distinction: 1st Prize`.
-_AWARD = re.compile(r"award(?:\.([\w.]+))?:? +(.+)|distinction: +(.+)", re.IGNORECASE)
+_AWARD = re.compile(r"award(?:\.([\w.]+))?:? +([^ ].*)|distinction: +([^ ].*)", re.IGNORECASE)
 
 
 @dataclass(frozen=True)

@@ -26,7 +26,7 @@ STYLE = stored_text("show/page.css")
 _LINES_OF_A_COLUMN = 20
 
 # A word that a browser would break at its hyphen: a move, with its number where it has one.
-_MOVE = re.compile(r"[^\s-]+-\S+")
+_MOVE = re.compile(r"(?<![^\s-])[^\s-]+-\S+")
 
 
 def _safe(text: str) -> str:
