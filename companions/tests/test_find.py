@@ -2,6 +2,7 @@
 
 import os
 import random
+import sqlite3
 import struct
 import sys
 import tempfile
@@ -10,7 +11,7 @@ import time
 import unittest
 from contextlib import closing
 from pathlib import Path
-from typing import Optional
+from typing import Any, Optional
 from unittest import mock
 
 from pops_companions.chess.men import Man, Square
@@ -573,8 +574,63 @@ class Command(support.InRoom):
         text = Path(self.path).read_bytes().replace(b"CREATE TABLE problems", b"CREATE \xffABLE problems")
         Path(self.path).write_bytes(text)
         outcome = self.run_on("--author", "x")
-        said = f"pops-find: cannot read {self.path}: it is damaged\n"
-        self.assertEqual(outcome, (3, b"", said))
+        self.assertEqual(outcome, (3, b"", f"pops-find: {self.path} has tables of others than pops-find\n"))
+
+    def test_statistics(self) -> None:
+        """SQLite's own are taken. Computed ones aren't even asked: SQLite would compute them with the schema."""
+        self.added("morphy_1856.pop")
+        with closing(sqlite3.connect(self.path)) as data, data:
+            data.execute("ANALYZE")
+        self.assertEqual(self.run_on("--author", "Morphy").status, 0)
+        with closing(sqlite3.connect(self.path)) as data, data:
+            data.execute("PRAGMA writable_schema = ON")
+            computed = "CREATE TABLE sqlite_stat1(tbl,idx,old,stat AS (hex(zeroblob(10000000))))"
+            data.execute("UPDATE sqlite_master SET sql = ? WHERE name = 'sqlite_stat1'", (computed,))
+        own = sqlite3.connect
+        asked: list[str] = []
+
+        def traced(*words: Any, **more: Any) -> sqlite3.Connection:
+            data = own(*words, **more)
+            data.set_trace_callback(asked.append)
+            return data
+
+        with mock.patch("sqlite3.connect", traced):
+            for words in (["--author", "x"], ["--add", str(self.examples / "morphy_1856.pop")]):
+                outcome = self.run_on(*words)
+                said = f"pops-find: {self.path} has tables of others than pops-find\n"
+                self.assertEqual(outcome, (3, b"", said))
+        self.assertEqual(set(asked), {"PRAGMA application_id"})
+
+    def test_a_schema_on_more_pages(self) -> None:
+        self.added("morphy_1856.pop")
+        with closing(sqlite3.connect(self.path)) as data, data:
+            for number in range(40):
+                data.execute(f"CREATE INDEX i{number} ON problems (title, author, number) WHERE number > {number}")
+        outcome = self.run_on("--author", "x")
+        self.assertEqual(outcome, (3, b"", f"pops-find: {self.path} is no collection of pops-find\n"))
+
+    def test_values_that_no_run_wrote(self) -> None:
+        self.added("morphy_1856.pop")
+        problem = str(self.examples / "morphy_1856.pop")
+        said = f"pops-find: {self.path} is damaged: it has a problem that isn't one\n"
+        with mock.patch.object(Collection, "_with_hashes", lambda *_: [(1, 1, ())]):
+            self.assertEqual(self.run_on("--near", problem), (3, b"", said))
+        with closing(sqlite3.connect(self.path)) as data, data:
+            data.execute("UPDATE problems SET source = 'x', id = 9223372036854775807")
+        self.assertEqual(self.run_on("--add", problem), (3, b"", said))
+
+    def test_a_collection_of_another_mode(self) -> None:
+        """With a log beside it, and after its user has closed it."""
+        self.added("morphy_1856.pop")
+        problem = str(self.examples / "morphy_1856.pop")
+        with closing(sqlite3.connect(self.path)) as data:
+            data.execute("PRAGMA journal_mode = WAL")
+            data.execute("SELECT * FROM problems").fetchall()
+            outcome = self.run_on("--author", "Morphy")
+            self.assertEqual(outcome, (3, b"", f"pops-find: cannot open {self.path}: another program uses it\n"))
+            self.assertTrue(os.path.exists(f"{self.path}-wal"))
+        self.assertEqual(self.run_on("--author", "Morphy").status, 0)
+        self.assertEqual(self.run_on("--add", problem).status, 0)
 
     def test_a_journal_that_names_another_file(self) -> None:
         self.added("morphy_1856.pop")

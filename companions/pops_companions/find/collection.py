@@ -8,7 +8,6 @@ import errno
 import os
 import re
 import sqlite3
-import stat
 import time
 from collections.abc import Iterable, Iterator, Sequence
 from contextlib import closing, contextmanager
@@ -26,21 +25,17 @@ from pops_companions.find.boards import (
     variants,
 )
 from pops_companions.find.entries import Entry, mirrored_play
+from pops_companions.find.on_disk import (
+    FORM,
+    SCHEMA,
+    CollectionError,
+    is_made,
+    refuse_foreign,
+    refuse_other,
+)
 from pops_companions.report.items import Board
 from pops_companions.show.diagram import numbers_of_men
 
-# The mark that the file is a collection of this form.
-_FORM = 0x706F7031
-_SCHEMA = """
-CREATE TABLE problems (
-  id INTEGER PRIMARY KEY, source TEXT NOT NULL, number INTEGER NOT NULL, title TEXT NOT NULL,
-  author TEXT NOT NULL, origin TEXT NOT NULL, stipulation TEXT NOT NULL, condition TEXT NOT NULL,
-  board TEXT NOT NULL, play TEXT, keywords TEXT NOT NULL DEFAULT '');
-CREATE TABLE positions (hash INTEGER NOT NULL, problem INTEGER NOT NULL,
-  PRIMARY KEY (hash, problem)) WITHOUT ROWID;
-CREATE INDEX problems_by_source ON problems (source);
-CREATE INDEX problems_by_play ON problems (play) WHERE play IS NOT NULL;
-"""
 _KEYWORDS = "ALTER TABLE problems ADD COLUMN keywords TEXT NOT NULL DEFAULT ''"
 # An ideal mate is a model mate, and a model mate is pure.
 _NARROWER = (("model mates", ("ideal mate",)), ("pure mates", ("ideal mate", "model mate")))
@@ -50,6 +45,8 @@ _COLUMNS = ", ".join(one.name for one in fields(Entry))
 _TYPES: tuple[Any, ...] = tuple(
     {"number": int, "play": (str, type(None))}.get(one.name, str) for one in fields(Entry)
 )
+# More than the ids of any collection.
+_MOST_ID = 1 << 53
 # How many hashes one question names.
 _HASHES_AT_ONCE = 500
 # SQLite's steps between two looks at a question, and how many a question may take: a scan takes
@@ -58,31 +55,6 @@ _STEPS_AT_ONCE = 100_000
 _LEAST_STEPS, _STEPS_OF_A_BYTE, _STEPS_OF_AN_ENTRY = 1_000_000, 20, 10_000
 # The seconds that a run waits for another that writes: at a time, and at most.
 _SECONDS_AT_ONCE, _MOST_SECONDS = 1, 600
-_JOURNAL = b"\xd9\xd5\x05\xf9\x20\xa1\x63\xd7"
-# What SQLite's files beside a collection begin with, by what their names end in.
-_BESIDE = {
-    "-journal": (_JOURNAL,),
-    "-wal": (b"\x37\x7f\x06\x82", b"\x37\x7f\x06\x83"),
-    "-shm": (b"\x18\xe2\x2d\x00", b"\x00\x2d\xe2\x18"),
-}
-
-
-def _without_blanks(statement: str) -> str:
-    return "".join(statement.split())
-
-
-# The statements that made the tables, also in older versions.
-_OWN = {
-    _without_blanks(statement)
-    for schema in (_SCHEMA, _SCHEMA.replace(", keywords TEXT NOT NULL DEFAULT ''", ""))
-    for statement in schema.split(";")
-}
-
-
-class CollectionError(Exception):
-    """A file that is no collection, or can't be read or written, with the reason."""
-
-
 @dataclass(frozen=True)
 class Wanted:
     """What found problems have: these words in author and title, these men, this stipulation.
@@ -128,28 +100,32 @@ class Collection:
             raise CollectionError(f"cannot open {path}: {reason}: --add makes a collection")
         if is_device(path):
             raise CollectionError(f"cannot open {path}: a collection is a file")
-        _refuse_foreign(path)
+        refuse_foreign(path)
         # (what a killed run left half written is taken back where the file may be written)
         mode = "rwc" if new else "rw" if os.access(path, os.W_OK) else "ro"
         self._path = path
-        self._steps = self._left = _LEAST_STEPS
+        self._left = 0
         try:
-            uri = f"{_uri(path)}?mode={mode}"
-            self._data = sqlite3.connect(uri, _SECONDS_AT_ONCE, isolation_level=None, uri=True)
-            self._data.create_function("folded", 1, _folded)
+            # (what a killed run left is taken back, which reads no table)
+            self._open(mode)
+            self._asked("PRAGMA application_id")
+            self._data.close()
+            if not is_made(path) and not new:
+                refuse_other(path)
+            self._open(mode)
             if new:
                 with self._whole("IMMEDIATE"):
-                    if not self._data.execute("SELECT 1 FROM sqlite_master").fetchone():
+                    if not self._asked("SELECT 1 FROM sqlite_master").fetchone():
                         self._make()
-            (form,) = self._asked("PRAGMA application_id").fetchone()
         except sqlite3.Error as error:
-            raise CollectionError(f"cannot open {path}: {error}") from None
-        if form != _FORM:
-            raise CollectionError(f"{path} is no collection of pops-find")
-        self._steps += _STEPS_OF_A_BYTE * os.path.getsize(path)
-        self._data.set_progress_handler(self._is_over, _STEPS_AT_ONCE)
-        self._refuse_others()
+            raise CollectionError(f"cannot open {path}: {self.reason(error)}") from None
         self._add_keywords(path)
+
+    def _open(self, mode: str) -> None:
+        uri = f"{_uri(self._path)}?mode={mode}"
+        self._data = sqlite3.connect(uri, _SECONDS_AT_ONCE, isolation_level=None, uri=True)
+        self._data.set_progress_handler(self._is_over, _STEPS_AT_ONCE)
+        self._data.create_function("folded", 1, _folded)
 
     def _is_over(self) -> bool:
         """Returns whether a question has taken too many steps. (Here signals are heeded too.)"""
@@ -163,7 +139,7 @@ class Collection:
         """
         end = time.monotonic() + _MOST_SECONDS
         while True:
-            self._left = self._steps
+            self._left = _LEAST_STEPS + _STEPS_OF_A_BYTE * os.path.getsize(self._path)
             try:
                 return self._data.execute(question, values)
             except sqlite3.OperationalError as error:
@@ -192,16 +168,6 @@ class Collection:
             raise KeyboardInterrupt
         return "it is damaged: a question has no end"
 
-    def _refuse_others(self) -> None:
-        """Refuses tables, views and triggers of others: they may have no end, or change what is added."""
-        question = (
-            "SELECT sql FROM sqlite_master"
-            " WHERE sql IS NOT NULL AND NOT (type = 'table' AND name LIKE 'sqlite_stat_')"
-        )
-        for (statement,) in self._asked(question):
-            if _without_blanks(str(statement)) not in _OWN:
-                raise CollectionError(f"{self._path} has tables of others than pops-find")
-
     def _add_keywords(self, path: str) -> None:
         """Makes room for keywords in a collection that an older version made."""
         if self._has_keywords():
@@ -218,9 +184,9 @@ class Collection:
 
     def _make(self) -> None:
         """Makes the tables and the mark, all or nothing, within the transaction at hand."""
-        for statement in filter(str.strip, _SCHEMA.split(";")):
+        for statement in filter(str.strip, SCHEMA.split(";")):
             self._data.execute(statement)
-        self._data.execute(f"PRAGMA application_id = {_FORM}")
+        self._data.execute(f"PRAGMA application_id = {FORM}")
 
     def close(self) -> None:
         self._data.close()
@@ -238,7 +204,9 @@ class Collection:
                 self._remove(source)
                 (last,) = self._asked("SELECT max(id) FROM problems").fetchone()
                 first = (last or 0) + 1
-                self._left = self._steps + _STEPS_OF_AN_ENTRY * len(added)
+                if first > _MOST_ID:
+                    self._refuse_row()
+                self._left += _STEPS_OF_AN_ENTRY * len(added)
                 marks = ", ".join("?" * (1 + len(fields(Entry))))
                 self._data.executemany(
                     f"INSERT INTO problems (id, {_COLUMNS}) VALUES ({marks})",
@@ -292,6 +260,8 @@ class Collection:
                 by_hash.setdefault(one, []).append(variant)
         best: dict[int, Found] = {}
         for one, number, row in self._with_hashes(list(by_hash)):
+            if one not in by_hash:
+                self._refuse_row()
             if number in best and _rank(best[number]) == (0, 0):
                 continue
             found = _simplest(by_hash[one], self._entry_of(row))
@@ -340,30 +310,6 @@ class Collection:
             for row in self._asked(question, (one,)):
                 found.append(Found(self._entry_of(row), how, ("the same key and mates",)))
         return found
-
-
-def _refuse_foreign(path: str) -> None:
-    """Refuses files of others that have the names of SQLite's files beside a collection: it removes them.
-    """
-    for end, heads in _BESIDE.items():
-        name = os.path.realpath(path) + end
-        try:
-            handle = os.open(name, os.O_RDONLY | os.O_NONBLOCK | os.O_NOFOLLOW | os.O_CLOEXEC)
-        except FileNotFoundError:
-            continue
-        except OSError as error:
-            raise CollectionError(f"cannot open {name}: {error.strerror}") from None
-        with os.fdopen(handle, "rb") as file:
-            is_file = stat.S_ISREG(os.fstat(handle).st_mode)
-            head = file.read(len(heads[0])) if is_file else b""
-            is_journal = head == _JOURNAL
-            tail = file.read() if is_journal and file.seek(-len(head), os.SEEK_END) else b""
-        # (it begins with zeros while it is written)
-        if not is_file or any(head) and head not in heads:
-            raise CollectionError(f"{name} isn't a file of SQLite: move it away")
-        # (a journal of several databases ends so, and SQLite removes the file that it names)
-        if tail == _JOURNAL:
-            raise CollectionError(f"{name} isn't of one collection: move it away")
 
 
 def _uri(path: str) -> str:
