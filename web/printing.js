@@ -11,8 +11,9 @@ import { say } from './words.js';
 
 const MANY_LINES = 70;
 const MOST_LINES = 300;
-// The lines that are printed: some twenty pages.
-const PRINTED_LINES = 10000;
+// The rows that are printed, of so many letters: some ten pages. (A browser lays them out at once, in a time that grows by the square.)
+const PRINTED_ROWS = 4000;
+const LETTERS_A_ROW = 25;
 
 export function fillPrint() {
   const { number } = blockNow() ?? { number: 0 };
@@ -54,8 +55,19 @@ function printedLines(shown) {
     return [...head, ...(item?.phases ?? []).flatMap(phase => [say(phase.kind), ...phase.lines, phase.isPossible && !phase.total ? say('beginning') : sayTotal(phase)])];
   });
   const many = lines.length > MOST_LINES ? 'most' : lines.length > MANY_LINES ? 'many' : '';
-  const left = lines.length > PRINTED_LINES ? [say('more', { count: lines.length - PRINTED_LINES })] : [];
-  const made = madeWith('pre', [...lines.slice(0, PRINTED_LINES).map(line => shortened(line)), ...left].join('\n'));
+  const first = firstRows(lines.map(line => shortened(line)));
+  const left = lines.length > first.length ? [say('more', { count: lines.length - first.length })] : [];
+  const made = madeWith('pre', [...first, ...left].join('\n'));
   made.className = many;
   return made;
+}
+
+/**
+ * Returns the lines that are printed.
+ * @param {string[]} lines
+ */
+function firstRows(lines) {
+  let rows = 0;
+  const end = lines.findIndex(({ length }) => (rows += 1 + Math.floor(length / LETTERS_A_ROW)) > PRINTED_ROWS);
+  return end < 0 ? lines : lines.slice(0, end);
 }

@@ -220,11 +220,14 @@ test('of a title of millions of letters each line of the page shows the beginnin
   assert.deepEqual(fields.map(it => it.disabled), [false, false, false]);
 });
 
-test('printing: of hundreds of thousands of lines some twenty pages are printed', () => {
-  begin(TEXT, `problem 1\nh#1\nplay\n${'1.Kg8-h8 Ra1-a8#\n'.repeat(30000)}solutions: 30000\n\n`);
-  fillPrint();
-  const lines = element('print').children[1].textContent.split('\n');
-  assert.deepEqual([lines.length, lines.at(-1)], [10001, '20002 more']);
+test('printing: of hundreds of thousands of lines, or of long ones, some ten pages are printed', () => {
+  for (const [line, printed] of [['1.Kg8-h8 Ra1-a8#', 4000], [`1.Kg8-h8 ${'x'.repeat(71)}`, 1000]]) {
+    begin(TEXT);
+    Object.assign(state, { items: [{ ...state.items[0], number: 1, phases: [{ kind: 'play', lines: Array(30000).fill(line), isPossible: true, total: null }] }] });
+    fillPrint();
+    const lines = element('print').children[1].textContent.split('\n');
+    assert.deepEqual([lines.length, lines.at(-1)], [printed + 1, `${30002 - printed} more`]);
+  }
   begin(TEXT);
 });
 
@@ -669,7 +672,9 @@ test('kept: one that is forgotten takes away nothing that another tab has kept m
   keepProblem(TEXT);
   const [line] = element('kept-list').children;
   kept.set('pops.kept', JSON.stringify([{ text: TWO_MOVES, time: 1 }, ...JSON.parse(kept.get('pops.kept'))]));
-  send('storage', {});
+  send('storage', { key: 'pops.visit' });
+  assert.equal(element('kept-list').children[0], line, 'a change of another value draws nothing');
+  send('storage', { key: 'pops.kept' });
   assert.equal(element('kept-list').children.length, 2);
   line.children[1].onclick();
   assert.deepEqual(JSON.parse(kept.get('pops.kept')).map(it => it.text), [TWO_MOVES]);
