@@ -20,8 +20,8 @@ from pops_companions.many.child_process import ChildProcess, Outcome, rest_of
 from pops_companions.many.linked import starts_none
 from pops_companions.many.program import RunError, Runs
 from tests import support
-from tests.six_problems import wait_for, watchers
-from tests.test_bundles import MATE, input_of, tasks
+from tests.six_problems import end_later, wait_for, watchers
+from tests.test_bundles import MATE, input_of, steady, tasks
 
 # Leaves its session, its environment and the program that started it; its number is in a file.
 _LEAVES = "env -i setsid sleep 9000 & echo $! > '{noted}'; {end}"
@@ -64,7 +64,6 @@ _GROUP = "timeout 9000 sleep 9000"
 
 class Linked(support.InRoom):
     @unittest.skipUnless(shutil.which("cc"), "cc isn't installed")
-    @unittest.skipUnless(shutil.which("cc"), "cc isn't installed")
     def test_a_program_that_may_start_another(self) -> None:
         starting = ("fork", "_Fork", "forkpty", "daemon", "wordexp", "posix_spawn", "dlvsym", "_IO_proc_open")
         # (the last may be of a program that calls the system without the library)
@@ -83,7 +82,7 @@ class Ended(support.InRoom):
         if as_script:
             words = [self.write_program("program", f"#!/bin/sh\n{text}\n")]
         child = ChildProcess(words, PIPE, PIPE)
-        self.addCleanup(sessions.end, child.run.pid)
+        end_later(self, child.run.pid)
         return child
 
     def killed(self, child: ChildProcess, number: int) -> Outcome:
@@ -140,7 +139,7 @@ class Ended(support.InRoom):
                 child = self.begun(f"echo well; setsid sleep 9000 & echo $! > '{noted}'; {end}", True)
                 wait_for(lambda noted=noted: noted.is_file() and noted.read_bytes().endswith(b"\n"))  # type: ignore[misc]
                 stranger = int(noted.read_bytes())
-                self.addCleanup(sessions.end, stranger)
+                end_later(self, stranger)
                 wait_for(lambda stranger=stranger: os.getsid(stranger) == stranger)  # type: ignore[misc]
                 outcome = self.killed(child, 0 if end == "exit 0" else 1)
                 self.assertEqual(outcome.output, b"well\n")
@@ -149,7 +148,7 @@ class Ended(support.InRoom):
         """The process that is noted, once it has a session of its own."""
         wait_for(lambda: noted.is_file() and noted.read_bytes().endswith(b"\n"))
         process = int(noted.read_bytes())
-        self.addCleanup(sessions.end, process)
+        end_later(self, process)
         wait_for(lambda: os.getsid(process) == process)
         return process
 
@@ -179,7 +178,7 @@ class Ended(support.InRoom):
         words = [sys.executable, "-c", _DIES, program, str(noted)]
         self.assertEqual(subprocess.run(words, cwd=support.COMPANIONS).returncode, -signal.SIGKILL)
         process = int(noted.read_bytes())
-        self.addCleanup(sessions.end, process)
+        end_later(self, process)
         wait_for(lambda: not sessions.members(process))
 
     def test_a_start_that_a_signal_breaks_off(self) -> None:
@@ -215,7 +214,7 @@ class Ended(support.InRoom):
         program = self.write_program("program", f"#!/bin/sh\n{_LEAVES.format(noted=self.room / 'noted', end='wait')}\n")
         run = subprocess.Popen([sys.executable, "-c", _RUNS, program], cwd=support.COMPANIONS)
         process = self.noted(self.room / "noted")
-        self.addCleanup(sessions.end, process)
+        end_later(self, process)
         wait_for(lambda: watchers(run.pid))
         (first,) = watchers(run.pid)
         os.kill(first, signal.SIGKILL)
@@ -240,7 +239,7 @@ class Ended(support.InRoom):
         reading, writing = os.pipe()
         child = subprocess.Popen(["sh", "-c", "sleep 9000 & wait"], pass_fds=(reading,), start_new_session=True)
         self.addCleanup(child.communicate)
-        self.addCleanup(sessions.end, child.pid)
+        end_later(self, child.pid)
         wait_for(lambda: len(sessions.members(child.pid)) == 2)
         (process,) = set(sessions.members(child.pid)) - {child.pid}
         readlink = os.readlink
@@ -289,7 +288,7 @@ class Ended(support.InRoom):
         def is_out_of_time(run: BundleRun, now: float) -> bool:
             return run._whole == 2
 
-        with mock.patch.object(BundleRun, "_is_out_of_time", is_out_of_time):
+        with steady(), mock.patch.object(BundleRun, "_is_out_of_time", is_out_of_time):
             with mock.patch.object(BundleRun, "_milliseconds", lambda run: 50):
                 came = BundleRun(child, bundle, 1.0, Bundles(bundle, 1)).go()
         self.assertEqual([it.tasks for it in came.results], [2])
