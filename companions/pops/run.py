@@ -12,6 +12,7 @@ from signal import SIGKILL
 from typing import Optional, Union
 
 from pops_companions.many.program import FAULTY, SOUND, RunError, Runs
+from pops_companions.many.sessions import quiet
 from pops_companions.report import events
 from pops_companions.report.item_builder import ItemBuilder
 from pops_companions.report.items import AnyItem
@@ -115,7 +116,8 @@ class Run:
 
         timer = threading.Timer(seconds, end)
         timer.daemon = True
-        timer.start()
+        with quiet():
+            timer.start()
         return timer
 
     def __iter__(self) -> Iterator[events.Event]:

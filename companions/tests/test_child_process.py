@@ -1,6 +1,7 @@
 """Programs that a companion starts: how they are ended, and what isn't waited for."""
 
 import os
+import re
 import shutil
 import signal
 import subprocess
@@ -31,7 +32,14 @@ import subprocess, sys
 from pops_companions.many.child_process import ChildProcess
 ChildProcess(sys.argv[1:], subprocess.PIPE, subprocess.PIPE).outcome(b"")
 """
-# Likewise, but this one is killed as soon as the program runs.
+# Has a thread that watches the program, and others that feed it, limit its time and show progress.
+_THREADS = """
+import pops, sys
+from pops_companions.many.progress import Progress
+with Progress("it").beating():
+    pops.Engine(sys.argv[1]).solve(bytes(1 << 22), pops.Limits(seconds=9000)).result
+"""
+# Runs a program, but this one is killed as soon as that runs.
 _DIES = """
 import os, pathlib, signal, subprocess, sys, time
 from pops_companions.many import child_process
@@ -222,6 +230,26 @@ class Ended(support.InRoom):
         run.kill()
         run.communicate()
         wait_for(lambda: not sessions.members(process))
+
+    def test_other_threads_leave_signals_to_the_main_one(self) -> None:
+        """A stopped process that goes on may give a signal to any thread that takes it."""
+        program = self.write_program("program", "#!/bin/sh\nexec sleep 9000\n")
+        run = subprocess.Popen([sys.executable, "-c", _THREADS, program], cwd=support.COMPANIONS)
+        self.addCleanup(run.communicate)
+        self.addCleanup(run.kill)
+        tasks = Path(f"/proc/{run.pid}/task")
+        wanted = sum(1 << sign - 1 for sign in (signal.SIGINT, signal.SIGTERM, signal.SIGHUP))
+
+        def left_by(thread: str) -> int:
+            """The signals that a thread leaves to others."""
+            found = re.search("SigBlk:\t(.*)", (tasks / thread / "status").read_text())
+            assert found is not None
+            return int(found[1], 16) & wanted
+
+        # (the main one leaves them while it starts another)
+        wait_for(lambda: len(os.listdir(tasks)) == 1 + 4 and not left_by(str(run.pid)))
+        others = set(os.listdir(tasks)) - {str(run.pid)}
+        self.assertEqual({left_by(it) for it in others}, {wanted})
 
     def test_what_a_companion_starts_meanwhile_stays(self) -> None:
         """It holds the pipe for the moment before it becomes another program."""

@@ -275,7 +275,8 @@ class ChildProcess:
         if len(text) <= _ROOM or has_room(self.run.stdin, len(text)):
             self._feed(text)
         else:
-            threading.Thread(target=self._feed, args=(text,), daemon=True).start()
+            with sessions.quiet():
+                threading.Thread(target=self._feed, args=(text,), daemon=True).start()
 
     def _feed(self, text: bytes) -> None:
         assert self.run.stdin is not None

@@ -167,7 +167,8 @@ class Parallel:
             is_stopped = threading.Event()
             with sessions.Watcher(child.run.pid, name):
                 looks = threading.Thread(target=_look, args=(child, room, logins, look, is_stopped))
-                looks.start()
+                with sessions.quiet():
+                    looks.start()
                 try:
                     _take_all(child, take)
                 finally:

@@ -8,6 +8,8 @@ from collections.abc import Callable, Iterator, Sequence
 from contextlib import contextmanager
 from typing import BinaryIO, NamedTuple, Optional, TypeVar
 
+from pops_companions.many.sessions import quiet
+
 Read = TypeVar("Read")
 _SECONDS_BETWEEN = 0.5
 # Where standard error is no terminal.
@@ -103,7 +105,8 @@ class Progress:
                 self.wait_on()
 
         heart = threading.Thread(target=beat, daemon=True)
-        heart.start()
+        with quiet():
+            heart.start()
         try:
             yield
         finally:

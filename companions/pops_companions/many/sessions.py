@@ -22,6 +22,7 @@ _ROUNDS = 100
 # of which its input says, or its first word.
 _WAITS = 'session=$1; shift; while read -r it; do session=$it; done; exec "$@" "$session"'
 _MARK = "POPS_RUN_"
+_SIGNALS = (signal.SIGINT, signal.SIGTERM, signal.SIGHUP)
 
 
 def new_mark() -> str:
@@ -183,6 +184,18 @@ def _send(process: int, sign: int) -> bool:
 
 
 @contextmanager
+def quiet() -> Iterator[None]:
+    """Lets the threads that begin in the block leave signals to the main one. (If another takes a signal, as
+    when a stopped process goes on, Python heeds it only after the wait of the main one.)
+    """
+    before = signal.pthread_sigmask(signal.SIG_BLOCK, _SIGNALS)
+    try:
+        yield
+    finally:
+        signal.pthread_sigmask(signal.SIG_SETMASK, before)
+
+
+@contextmanager
 def passing_folder(prefix: str) -> Iterator[str]:
     """A new folder that goes with the block, also if a signal comes while it goes."""
     # (loaded only by runs that need them)
@@ -217,7 +230,7 @@ class Watcher:
         self._is_over = False
         self._run = self._started()
         # (where there are no more threads, nobody sees to it)
-        with suppress(RuntimeError):
+        with quiet(), suppress(RuntimeError):
             threading.Thread(target=self._replace, daemon=True).start()
 
     def __enter__(self) -> None:
