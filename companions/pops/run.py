@@ -11,6 +11,7 @@ from enum import Enum
 from signal import SIGKILL
 from typing import Optional, Union
 
+from pops_companions.interrupts import quiet
 from pops_companions.many.program import FAULTY, SOUND, RunError, Runs
 from pops_companions.report import events
 from pops_companions.report.item_builder import ItemBuilder
@@ -115,7 +116,8 @@ class Run:
 
         timer = threading.Timer(seconds, end)
         timer.daemon = True
-        timer.start()
+        with quiet():
+            timer.start()
         return timer
 
     def __iter__(self) -> Iterator[events.Event]:

@@ -75,12 +75,23 @@ def heeded() -> list[signal.Signals]:
 
 def wake() -> None:
     """Lets each thread that waits in a call of the system try it again, if signals raise."""
-    for sign in heeded()[:1]:
-        for thread in threading.enumerate():
-            if thread.ident is not None and thread is not threading.main_thread():
-                # (it may have ended just now)
-                with suppress(ProcessLookupError):
-                    signal.pthread_kill(thread.ident, sign)
+    for thread in threading.enumerate() if heeded() else ():
+        if thread.ident is not None and thread is not threading.main_thread():
+            # (it may have ended just now)
+            with suppress(ProcessLookupError):
+                signal.pthread_kill(thread.ident, signal.SIGALRM)
+
+
+@contextmanager
+def quiet() -> Iterator[None]:
+    """Lets the threads that begin in the block leave signals to the main one. (If another takes a signal, as
+    when a stopped process goes on, Python heeds it only after the wait of the main one.)
+    """
+    before = signal.pthread_sigmask(signal.SIG_BLOCK, SIGNALS)
+    try:
+        yield
+    finally:
+        signal.pthread_sigmask(signal.SIG_SETMASK, before)
 
 
 @contextmanager

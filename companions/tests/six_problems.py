@@ -5,6 +5,7 @@ import signal
 import subprocess
 import sys
 import time
+import unittest
 from collections.abc import Callable
 from pathlib import Path
 
@@ -83,6 +84,22 @@ def has_worked(process: int) -> bool:
     return bool(fields) and int(fields[11]) >= os.sysconf("SC_CLK_TCK") // 10
 
 
+def _begun(process: int) -> list[bytes]:
+    """When a process began; nothing where it is gone."""
+    return _fields(Path(f"/proc/{process}"))[19:20]
+
+
+def end_later(test: unittest.TestCase, session: int) -> None:
+    """Ends a session after a test, unless another process has its number by then."""
+    begun = _begun(session)
+
+    def end() -> None:
+        if _begun(session) in ([], begun):
+            sessions.end(session)
+
+    test.addCleanup(end)
+
+
 def heed_hangup() -> None:
     """A hangup ends what is started, also where these tests run under nohup."""
     signal.signal(signal.SIGHUP, signal.SIG_DFL)
@@ -150,7 +167,7 @@ class SixProblems(support.InRoom):
 
         wait_for(are_there)
         for program in found:
-            self.addCleanup(sessions.end, program)
+            end_later(self, program)
         return found
 
     def wait_for_end(self, session: int) -> None:

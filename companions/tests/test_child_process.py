@@ -1,6 +1,7 @@
 """Programs that a companion starts: how they are ended, and what isn't waited for."""
 
 import os
+import re
 import shutil
 import signal
 import subprocess
@@ -20,8 +21,8 @@ from pops_companions.many.child_process import ChildProcess, Outcome, rest_of
 from pops_companions.many.linked import starts_none
 from pops_companions.many.program import RunError, Runs
 from tests import support
-from tests.six_problems import wait_for, watchers
-from tests.test_bundles import MATE, input_of, tasks
+from tests.six_problems import end_later, wait_for, watchers
+from tests.test_bundles import MATE, input_of, steady, tasks
 
 # Leaves its session, its environment and the program that started it; its number is in a file.
 _LEAVES = "env -i setsid sleep 9000 & echo $! > '{noted}'; {end}"
@@ -31,7 +32,14 @@ import subprocess, sys
 from pops_companions.many.child_process import ChildProcess
 ChildProcess(sys.argv[1:], subprocess.PIPE, subprocess.PIPE).outcome(b"")
 """
-# Likewise, but this one is killed as soon as the program runs.
+# Has a thread that watches the program, and others that feed it, limit its time and show progress.
+_THREADS = """
+import pops, sys
+from pops_companions.many.progress import Progress
+with Progress("it").beating():
+    pops.Engine(sys.argv[1]).solve(bytes(1 << 22), pops.Limits(seconds=9000)).result
+"""
+# Runs a program, but this one is killed as soon as that runs.
 _DIES = """
 import os, pathlib, signal, subprocess, sys, time
 from pops_companions.many import child_process
@@ -64,7 +72,6 @@ _GROUP = "timeout 9000 sleep 9000"
 
 class Linked(support.InRoom):
     @unittest.skipUnless(shutil.which("cc"), "cc isn't installed")
-    @unittest.skipUnless(shutil.which("cc"), "cc isn't installed")
     def test_a_program_that_may_start_another(self) -> None:
         starting = ("fork", "_Fork", "forkpty", "daemon", "wordexp", "posix_spawn", "dlvsym", "_IO_proc_open")
         # (the last may be of a program that calls the system without the library)
@@ -83,7 +90,7 @@ class Ended(support.InRoom):
         if as_script:
             words = [self.write_program("program", f"#!/bin/sh\n{text}\n")]
         child = ChildProcess(words, PIPE, PIPE)
-        self.addCleanup(sessions.end, child.run.pid)
+        end_later(self, child.run.pid)
         return child
 
     def killed(self, child: ChildProcess, number: int) -> Outcome:
@@ -140,7 +147,7 @@ class Ended(support.InRoom):
                 child = self.begun(f"echo well; setsid sleep 9000 & echo $! > '{noted}'; {end}", True)
                 wait_for(lambda noted=noted: noted.is_file() and noted.read_bytes().endswith(b"\n"))  # type: ignore[misc]
                 stranger = int(noted.read_bytes())
-                self.addCleanup(sessions.end, stranger)
+                end_later(self, stranger)
                 wait_for(lambda stranger=stranger: os.getsid(stranger) == stranger)  # type: ignore[misc]
                 outcome = self.killed(child, 0 if end == "exit 0" else 1)
                 self.assertEqual(outcome.output, b"well\n")
@@ -149,7 +156,7 @@ class Ended(support.InRoom):
         """The process that is noted, once it has a session of its own."""
         wait_for(lambda: noted.is_file() and noted.read_bytes().endswith(b"\n"))
         process = int(noted.read_bytes())
-        self.addCleanup(sessions.end, process)
+        end_later(self, process)
         wait_for(lambda: os.getsid(process) == process)
         return process
 
@@ -179,7 +186,7 @@ class Ended(support.InRoom):
         words = [sys.executable, "-c", _DIES, program, str(noted)]
         self.assertEqual(subprocess.run(words, cwd=support.COMPANIONS).returncode, -signal.SIGKILL)
         process = int(noted.read_bytes())
-        self.addCleanup(sessions.end, process)
+        end_later(self, process)
         wait_for(lambda: not sessions.members(process))
 
     def test_a_start_that_a_signal_breaks_off(self) -> None:
@@ -215,7 +222,7 @@ class Ended(support.InRoom):
         program = self.write_program("program", f"#!/bin/sh\n{_LEAVES.format(noted=self.room / 'noted', end='wait')}\n")
         run = subprocess.Popen([sys.executable, "-c", _RUNS, program], cwd=support.COMPANIONS)
         process = self.noted(self.room / "noted")
-        self.addCleanup(sessions.end, process)
+        end_later(self, process)
         wait_for(lambda: watchers(run.pid))
         (first,) = watchers(run.pid)
         os.kill(first, signal.SIGKILL)
@@ -223,6 +230,26 @@ class Ended(support.InRoom):
         run.kill()
         run.communicate()
         wait_for(lambda: not sessions.members(process))
+
+    def test_other_threads_leave_signals_to_the_main_one(self) -> None:
+        """A stopped process that goes on may give a signal to any thread that takes it."""
+        program = self.write_program("program", "#!/bin/sh\nexec sleep 9000\n")
+        run = subprocess.Popen([sys.executable, "-c", _THREADS, program], cwd=support.COMPANIONS)
+        self.addCleanup(run.communicate)
+        self.addCleanup(run.kill)
+        tasks = Path(f"/proc/{run.pid}/task")
+        wanted = sum(1 << sign - 1 for sign in (signal.SIGINT, signal.SIGTERM, signal.SIGHUP))
+
+        def left_by(thread: str) -> int:
+            """The signals that a thread leaves to others."""
+            found = re.search("SigBlk:\t(.*)", (tasks / thread / "status").read_text())
+            assert found is not None
+            return int(found[1], 16) & wanted
+
+        # (the main one leaves them while it starts another)
+        wait_for(lambda: len(os.listdir(tasks)) == 1 + 4 and not left_by(str(run.pid)))
+        others = set(os.listdir(tasks)) - {str(run.pid)}
+        self.assertEqual({left_by(it) for it in others}, {wanted})
 
     def test_what_a_companion_starts_meanwhile_stays(self) -> None:
         """It holds the pipe for the moment before it becomes another program."""
@@ -240,7 +267,7 @@ class Ended(support.InRoom):
         reading, writing = os.pipe()
         child = subprocess.Popen(["sh", "-c", "sleep 9000 & wait"], pass_fds=(reading,), start_new_session=True)
         self.addCleanup(child.communicate)
-        self.addCleanup(sessions.end, child.pid)
+        end_later(self, child.pid)
         wait_for(lambda: len(sessions.members(child.pid)) == 2)
         (process,) = set(sessions.members(child.pid)) - {child.pid}
         readlink = os.readlink
@@ -289,7 +316,7 @@ class Ended(support.InRoom):
         def is_out_of_time(run: BundleRun, now: float) -> bool:
             return run._whole == 2
 
-        with mock.patch.object(BundleRun, "_is_out_of_time", is_out_of_time):
+        with steady(), mock.patch.object(BundleRun, "_is_out_of_time", is_out_of_time):
             with mock.patch.object(BundleRun, "_milliseconds", lambda run: 50):
                 came = BundleRun(child, bundle, 1.0, Bundles(bundle, 1)).go()
         self.assertEqual([it.tasks for it in came.results], [2])

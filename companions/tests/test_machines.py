@@ -324,7 +324,7 @@ class OnMachines(support.InRoom):
     def test_a_machine_that_says_nothing_is_left_out(self) -> None:
         """It takes a login and hangs, also where GNU parallel first asks it how many jobs it takes."""
         (self.room / "x.pop").write_bytes(input_of(MATE.format(1)))
-        hangs = self.write_program("hangs", "#!/bin/sh\nsleep 60\n")
+        hangs = self.write_program("hangs", "#!/bin/sh\nsleep 6000\n")
         words = ["--pops", support.pops(), "--sshlogin", "one", "--ssh", hangs, str(self.room / "x.pop")]
         left_out = "machine one left out: no report came back in 1 s"
         said = f"pops-many: {left_out}\npops-many: no machine is left\n"

@@ -65,7 +65,7 @@ class Alone(support.InRoom):
         both = LONG.replace(b"EndProblem", b"NextProblem") + LONG.partition(b"\n")[2]
         for words, text in (
             (("--check",), LONG),
-            (("--seconds", "600", "--unfinished", f"{self.input}.rest"), LONG),
+            (("--seconds", str(support.PATIENCE), "--unfinished", f"{self.input}.rest"), LONG),
             ((), both),
         ):
             self.input.write_bytes(text)

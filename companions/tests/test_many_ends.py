@@ -24,7 +24,7 @@ from pops_companions.many.progress import Progress
 from pops_companions.many.tasks import Source, tasks_of
 from tests import run_here, support
 from tests.made_clock import made_clock
-from tests.six_problems import SIX, SixProblems, has_worked, wait_for
+from tests.six_problems import SIX, SixProblems, end_later, has_worked, wait_for
 
 WAITS = "sleep 6000 & sleep 6001"
 
@@ -231,7 +231,7 @@ class Sessions(unittest.TestCase):
         """The session that is watched, once its processes are there."""
         assert run.stdout is not None
         session = int(run.stdout.readline())
-        self.addCleanup(sessions.end, session)
+        end_later(self, session)
         wait_for(lambda: len(sessions.members(session)) == 3)
         return session
 

@@ -283,7 +283,7 @@ class ChildProcess:
         if len(text) <= _ROOM or has_room(self.run.stdin, len(text)):
             self._feed(text)
         else:
-            with interrupts.held():
+            with interrupts.held(), interrupts.quiet():
                 threading.Thread(target=self._feed, args=(text,), daemon=True).start()
 
     def _feed(self, text: bytes) -> None:

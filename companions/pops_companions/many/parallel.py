@@ -168,7 +168,8 @@ class Parallel:
             is_stopped = threading.Event()
             with interrupts.held() as as_before, sessions.Watcher(child.run.pid, name):
                 looks = threading.Thread(target=_look, args=(child, room, logins, look, is_stopped))
-                looks.start()
+                with interrupts.quiet():
+                    looks.start()
                 try:
                     with as_before():
                         _take_all(child, take)

@@ -106,7 +106,8 @@ class Progress:
 
         heart = threading.Thread(target=beat, daemon=True)
         with interrupts.held() as as_before:
-            heart.start()
+            with interrupts.quiet():
+                heart.start()
             try:
                 with as_before():
                     yield

@@ -14,7 +14,8 @@ import sys
 import threading
 import time
 from collections.abc import Callable, Collection, Iterable, Iterator
-from contextlib import AbstractContextManager, contextmanager, suppress
+from contextlib import contextmanager, suppress
+from types import ModuleType
 
 _SECONDS_BETWEEN = 0.05
 _ROUNDS = 100
@@ -189,7 +190,7 @@ def passing_folder(prefix: str) -> Iterator[str]:
     import shutil
     import tempfile
 
-    with _held() as as_before:
+    with _interrupts().held() as as_before:
         folder = tempfile.mkdtemp(prefix=prefix)
         try:
             with as_before():
@@ -198,11 +199,11 @@ def passing_folder(prefix: str) -> Iterator[str]:
             shutil.rmtree(folder, ignore_errors=True)
 
 
-def _held() -> AbstractContextManager[Callable[[], AbstractContextManager[None]]]:
+def _interrupts() -> ModuleType:
     # (the package isn't found where this module is run as a program)
     from pops_companions import interrupts
 
-    return interrupts.held()
+    return interrupts
 
 
 class Watcher:
@@ -219,10 +220,11 @@ class Watcher:
         self._session = session
         self._lock = threading.Lock()
         self._is_over = False
-        with _held():
+        interrupts = _interrupts()
+        with interrupts.held():
             self._run = self._started()
             # (where there are no more threads, nobody sees to it)
-            with suppress(RuntimeError):
+            with interrupts.quiet(), suppress(RuntimeError):
                 threading.Thread(target=self._replace, daemon=True).start()
 
     def __enter__(self) -> None:
@@ -261,7 +263,7 @@ class Watcher:
 
     def close(self) -> None:
         """Ends the watch. (Killed before its input ends, the process does nothing.)"""
-        with _held(), self._lock:
+        with _interrupts().held(), self._lock:
             self._is_over = True
             self._run.kill()
             self._run.communicate()
