@@ -28,7 +28,7 @@ OF_OWN_FILE = "pops_companions.show.men_shapes"
 SHORT, LONG, MOST_GROWTH = 512, 2048, 9
 # Lengths of texts before them, for patterns that take twice the time for each character more.
 FIRST = (12, 18, 24)
-# Of so few seconds of the processor nothing is said; so many are too many for any text.
+# Seconds of the processor: fewer may be chance, more are too many for any text.
 FEW, MANY = 0.004, 0.1
 OF_CATEGORIES = {"SPACE": " ", "NOT_SPACE": "x", "DIGIT": "0", "NOT_DIGIT": "x", "WORD": "a", "NOT_WORD": "-"}
 MOST_LETTERS, MOST_HEADS = 16, 8

@@ -178,7 +178,9 @@ def joined(case: Case) -> Optional[Explanation]:
         # (`Qh8B`, `BKg8` and `Pa7rb7` may have a letter too many)
         is_short = len(second) < 3 and second.isalpha()
         is_small = word[0].isupper() and second[0].islower() and is_man(second.encode("utf-8"))
-        if place < 2 or is_short or is_small:
+        # (without a digit no word of pops is longer than the names)
+        is_long = any(len(it) > _LONGEST_NAME and not re.search("[0-9]", it) for it in (first, second))
+        if place < 2 or is_short or is_small or is_long:
             continue
         # (`Stipulations#2` may be one for several)
         if first.lower() == "stipulation" and second[0] in "sS":
