@@ -22,7 +22,7 @@ import signal
 import subprocess
 import threading
 import time
-from collections.abc import Callable, Generator, Sequence
+from collections.abc import Callable, Generator, Iterator, Sequence
 from contextlib import closing, suppress
 from typing import IO, NamedTuple, Optional, Union
 
@@ -39,8 +39,8 @@ _SET_ROOM, _GET_ROOM = 1031, 1032
 # What a run writes is read after pauses of this many milliseconds, unless it ends sooner or writes
 # much: it writes line by line, and waking for each line would cost more than the search.
 PAUSE = 20
-# After this many seconds of a wait that takes locks signals are heeded.
-_MOMENT = 0.5
+# After this many milliseconds of a wait signals are heeded.
+_MOMENT = 500
 # The number of standard error.
 _LAST_STREAM = 2
 # The processor time after which a program ends that outlives its seconds, in seconds beyond them.
@@ -215,7 +215,7 @@ class ChildProcess:
             if self.run.stdin is not None and text is not None:
                 self.feed(text)
             while not self.is_killed and (streams or self.run.returncode is None):
-                came = ready.poll(wait()) if streams else self._end_in(wait())
+                came = _polled(ready, wait()) if streams else self._end_in(wait())
                 if self.is_killed:
                     break
                 if not came and self.run.returncode is None:
@@ -246,13 +246,10 @@ class ChildProcess:
 
     def _end_in(self, milliseconds: Optional[float]) -> list[tuple[int, int]]:
         """Waits for the program's end, for some time at most; nothing has come then."""
-        if milliseconds is None:
-            # (it takes no lock, so that a signal may break it off)
-            with suppress(ChildProcessError):
-                os.waitid(os.P_PID, self.run.pid, os.WEXITED | os.WNOWAIT)
-        most = _MOMENT if milliseconds is None else min(milliseconds / 1000, _MOMENT)
-        with interrupts.held(), suppress(subprocess.TimeoutExpired):
-            self.run.wait(most)
+        for moment in _moments(milliseconds):
+            with interrupts.held(), suppress(subprocess.TimeoutExpired):
+                self.run.wait(moment / 1000)
+                break
         return []
 
     def _left(self, until: Optional[float]) -> Optional[float]:
@@ -354,6 +351,22 @@ class ChildProcess:
         os.close(self._held)
         if self._watcher is not None:
             self._watcher.close()
+
+
+def _moments(milliseconds: Optional[float]) -> Iterator[float]:
+    """Yields short waits, in milliseconds, that take as long together, or have no end.
+
+    Python heeds a signal that comes just as a wait begins only after that wait.
+    """
+    left = math.inf if milliseconds is None else milliseconds
+    yield min(left, _MOMENT)
+    while (left := left - _MOMENT) > 0:
+        yield min(left, _MOMENT)
+
+
+def _polled(ready: "select.poll", milliseconds: Optional[float]) -> list[tuple[int, int]]:
+    """Returns what is ready as soon as anything is; nothing after some time at most."""
+    return next(filter(None, map(ready.poll, _moments(milliseconds))), [])
 
 
 def rest_of(pipe: int) -> bytes:
