@@ -78,6 +78,15 @@ function keyPressed(event) {
   event.preventDefault();
 }
 
+/**
+ * Receives that another tab has stored something, or removed all (null).
+ * @param {string | null} key
+ */
+function storedByOther(key) {
+  if (key === 'pops') leaveNameToCopy();
+  else if (key === 'pops.kept' || key === null) showKept();
+}
+
 function listen() {
   const area = element('text');
   area.oninput = typed;
@@ -96,8 +105,7 @@ function listen() {
   addEventListener('beforeprint', fillPrint);
   addEventListener('hashchange', openLink);
   addEventListener('pagehide', storeVisit);
-  // (another tab has stored something)
-  addEventListener('storage', ({ key }) => (key === 'pops' ? leaveNameToCopy() : showKept()));
+  addEventListener('storage', ({ key }) => storedByOther(key));
   addEventListener('beforeunload', askToStay);
   document.addEventListener('visibilitychange', () => document.visibilityState === 'hidden' && storeVisit());
   listenToFiles();

@@ -11,6 +11,8 @@ const MOST_UNDO_LETTERS = 1 << 25;
 // The most letters of a visit's texts for undo, and of its report.
 const MOST_STEP_LETTERS = 500000;
 const MOST_REPORT_LETTERS = 1000000;
+// A text has its name among so many letters at its beginning.
+const NAMED_LETTERS = 5000;
 // More letters of a title don't come into a file's name.
 const LONGEST_TITLE = 1000;
 export const MOST_FILE_BYTES = 1 << 23;
@@ -101,7 +103,7 @@ export function visitOf(written) {
  * @param {string} text
  * @param {Block | null} [block]
  */
-export function nameOfText(text, block = blockAt(text, 0)) {
+export function nameOfText(text, block = blockAt(text.slice(0, NAMED_LETTERS), 0)) {
   if (!block) return text.trim().slice(0, 40);
   const fields = fieldsOf(text, block);
   const said = valueOf(fields, 'title') || `${valueOf(fields, 'stipulation') ?? ''} ${sidesOf(menOf(block).men).trim()}`;

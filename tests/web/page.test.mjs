@@ -672,7 +672,9 @@ test('kept: one that is forgotten takes away nothing that another tab has kept m
   keepProblem(TEXT);
   const [line] = element('kept-list').children;
   kept.set('pops.kept', JSON.stringify([{ text: TWO_MOVES, time: 1 }, ...JSON.parse(kept.get('pops.kept'))]));
-  send('storage', {});
+  send('storage', { key: 'pops.visit' });
+  assert.equal(element('kept-list').children[0], line, 'a change of another value draws nothing');
+  send('storage', { key: 'pops.kept' });
   assert.equal(element('kept-list').children.length, 2);
   line.children[1].onclick();
   assert.deepEqual(JSON.parse(kept.get('pops.kept')).map(it => it.text), [TWO_MOVES]);

@@ -105,6 +105,8 @@ test('store: links, kept texts, files', () => {
   assert.deepEqual(withKept([{ text: 'a', time: 1, tab: 't' }], { text: 'b', time: 2, tab: 't' }), [{ text: 'b', time: 2, tab: 't' }]);
   assert.deepEqual(keptOf('{"text": 1}'), []);
   assert.equal(nameOfText(TEXT), 'A b');
+  const long = TEXT + ' a'.repeat(40000);
+  assert.deepEqual([nameOfText(long), blocksOf.knows(long)], ['A b', false], 'only the beginning is read');
   assert.deepEqual(textOfBytes(Uint8Array.of(0xe9)), { text: 'é', isUtf8: false });
 });
 
