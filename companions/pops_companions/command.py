@@ -204,8 +204,11 @@ def _of_fault(error: Exception) -> tuple[str, Status]:
 
 
 def said_of(error: OSError) -> str:
-    """Returns what is said of a call that failed: the file, if one is known, and why."""
-    return ": ".join(map(str, filter(None, (error.filename, error.strerror or error))))
+    """Returns what is said of a call that failed: the file, if one is known, and why. A file that couldn't
+    be renamed is named as it would be.
+    """
+    name = error.filename2 or error.filename
+    return ": ".join(map(str, filter(None, (name, error.strerror or error))))
 
 
 @contextmanager

@@ -9,7 +9,7 @@ from unittest import mock
 
 from pops_companions import files
 from pops_companions.many.targets import Target
-from tests import support
+from tests import run_here, support
 
 _LIST = "system.posix_acl_access"
 _NOBODY = 0xFFFFFFFF
@@ -47,6 +47,21 @@ class Names(support.InRoom):
                 file.write(b"again")
             self.assertEqual(os.listdir(self.room), [name])
             (self.room / name).unlink()
+
+
+    def test_a_file_in_whose_place_none_may_be_put(self) -> None:
+        """As another user's file in a folder like /tmp: the message names it, and not the file beside it."""
+        report, page = self.room / "a.report", self.room / "page.json"
+        report.write_bytes(b"problem 1\n#1\nplay\n1.Ra1-a8#\nsolutions: 1\n\n")
+        page.write_bytes(b"old")
+
+        def replace(old: str, new: str) -> None:
+            raise PermissionError(1, "Operation not permitted", old, None, new)
+
+        with mock.patch("os.replace", replace):
+            outcome = run_here.companion("pops2json", str(report), "-o", str(page))
+        self.assertEqual(outcome, (3, b"", f"pops2json: {page}: Operation not permitted\n"))
+        self.assertEqual(sorted(os.listdir(self.room)), ["a.report", "page.json"])
 
 
 class Readers(support.InRoom):

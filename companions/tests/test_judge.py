@@ -322,6 +322,8 @@ class Judging(support.InRoom):
             ("solutions.report.unfinished", "ln -s '{foreign}'", "pops"),
             ("short.report.journal", "mkfifo", "pops"),
             ("short.report", "mkdir", "pops"),
+            ("short.pop", "mkdir", "pops"),
+            ("tries-1.txt", "mkdir", "pops-tries"),
             ("tries-99.txt", "mkdir", "pops-tries"),
         ):
             with self.subTest(name, kind=kind, by=by):

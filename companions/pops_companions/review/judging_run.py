@@ -180,17 +180,24 @@ class Work:
         if begun is None and self.folder.is_sealed(report):
             return
         self.folder.discard(report)
+        goes_on = begun is not None and is_begun(begun)
+        if not goes_on:
+            # (one whose first line is cut or damaged keeps nothing)
+            self.folder.discard(journal)
+        self._run([*self._words(report), *["--resume"] * goes_on, "--", str(source)], report)
+
+    def _words(self, report: Path) -> list[str]:
+        """Returns the first words of a command line of pops-many."""
         # (the value of an option may begin with a dash, as the name of a sheet)
         words = [f"--pops={self._runs.pops}", f"--output={report}"]
         if self._runs.jobs is not None:
             words.append(f"--jobs={self._runs.jobs}")
         if self._runs.seconds is not None:
             words.append(f"--seconds={self._runs.seconds!r}")
-        goes_on = begun is not None and is_begun(begun)
-        if not goes_on:
-            # (one whose first line is cut or damaged keeps nothing)
-            self.folder.discard(journal)
-        words += [*["--resume"] * goes_on, "--", str(source)]
+        return words
+
+    def _run(self, words: list[str], report: Path) -> None:
+        """Runs pops-many with these words, for a report."""
         said = io.StringIO()
         # (on a terminal it shows how far it is)
         shown: io.StringIO = _Renaming(sys.stderr, self.named) if sys.stderr.isatty() else said

@@ -216,12 +216,16 @@ class WorkFolder:
         a file of its own.
         """
         self.refuse_moved()
-        if not all(self._is_file(it) for it in os.listdir(self._handle) if _OWN.fullmatch(it)):
+        self._refuse_kinds(it for it in os.listdir(self._handle) if _OWN.fullmatch(it))
+
+    def _refuse_kinds(self, names: Iterable[str]) -> None:
+        if not all(map(self._is_file, names)):
             raise OthersError(f"{self.path} was changed while it was in use: remove it")
 
     def write(self, path: Path, text: bytes) -> None:
         """Writes a file of the folder, completely or not at all."""
         self.refuse_moved()
+        self._refuse_kinds([path.name])
         with files.written_whole(str(path), links=files.Links.REPLACED) as file:
             file.write(text)
 
