@@ -12,9 +12,10 @@ from typing import Optional
 from pops_companions import command
 from pops_companions.command import DeviceError, Status, option, word
 from pops_companions.find.boards import board_of
-from pops_companions.find.collection import Collection, CollectionError, Found, Wanted
+from pops_companions.find.collection import Collection, Found, Wanted
 from pops_companions.find.dates import whole_date
 from pops_companions.find.entries import EntriesError, Entry, entries_of, items_of
+from pops_companions.find.on_disk import CollectionError
 from pops_companions.find.showing import Answer, as_page, as_text
 from pops_companions.input.writing import men_in
 from pops_companions.many.progress import Progress
