@@ -16,8 +16,9 @@ from unittest import mock
 
 from pops_companions.chess.men import Man, Square
 from pops_companions.find.boards import board_of, differences, men_of, variants
-from pops_companions.find.collection import Collection, CollectionError
+from pops_companions.find.collection import Collection
 from pops_companions.find.entries import Entry, items_of, mirrored_play, play_of
+from pops_companions.find.on_disk import CollectionError
 from pops_companions.input.writing import men_in, pieces_line
 from tests import run_here, support
 

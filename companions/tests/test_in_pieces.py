@@ -72,6 +72,28 @@ class InPieces(support.InRoom):
         self.compare(report([1, 2, 5, 6, 20, 21, 1, 2, 3, 3, 3, 9, 10, 4, 5]))
         self.compare(report([1, 2, 9000, 9001, 13_000, 13_001, 13_002]))
 
+    def test_unfinished_problems_beside_it(self) -> None:
+        """They are judged in pieces too, in their places: twins between others, and after the last one."""
+        numbers = [it for it in range(1, 90) if it % 4 or it % 20 == 0]
+        bodies = [b"title: Twins b)\n#2\nplay\n1.Ra1-a8\n", b"", b"title: Twins a)\n#2\nplay\n", b"title: T \xff\n#1\nplay\n"]
+        rest = [it for it in range(1, 100) if it not in numbers and it % 3]
+        marked = b"".join(b"problem %d\n%sunfinished: stopped\n\n" % (it, bodies[it % 16 // 4]) for it in rest)
+        self.file.with_name("report.unfinished").write_bytes(marked)
+        cut: list[bytes] = []
+        own = in_pieces.Cutter._cut
+
+        def noted(cutter: in_pieces.Cutter, end: int, last: int) -> in_pieces.Piece:
+            piece = own(cutter, end, last)
+            cut.append(piece.text)
+            return piece
+
+        with mock.patch.object(in_pieces.Cutter, "_cut", noted):
+            for words in WORDS:
+                self.compare(report(numbers), (1, 300, 3000), words)
+                self.assertTrue(cut)
+                cut.clear()
+            self.compare(b"")
+
     def test_an_input(self) -> None:
         twins = [b"Title T %s)\nRemark %s) Move a1 b1\nPieces White Ka1 Black Kh8\nStipulation #1\n" % (it, it) for it in (b"a", b"b", b"c", b"d")]
         text = b"BeginProblem\n" + b"NextProblem\n".join(twins * 4) + b"EndProblem\n"

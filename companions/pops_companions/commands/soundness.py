@@ -9,7 +9,12 @@ from pops_companions.command import DeviceError, Status, flag, option, word
 from pops_companions.input.given_source import read_given
 from pops_companions.input.writing import text_of_problems
 from pops_companions.many.progress import Progress
-from pops_companions.report.source import NamedText, items_with_unfinished, unfinished_beside
+from pops_companions.report.source import (
+    NamedText,
+    fitting_unfinished,
+    items_with_unfinished,
+    unfinished_beside,
+)
 from pops_companions.review.beside import Beside
 from pops_companions.review.in_pieces import is_large
 from pops_companions.review.judged_groups import JudgedGroup
@@ -123,12 +128,18 @@ def opened_texts(
 ) -> Iterator[Iterator[bytes]]:
     """Opens the report, and yields what is written, piece by piece: text and CSV problem by problem."""
     file, encoding, name = settings.text, settings.encoding, command.name_of(settings.text)
-    report = JudgedReport(NamedText(NAME, name, encoding), beside, form_of(settings), tally)
+    named, form = NamedText(NAME, name, encoding), form_of(settings)
     with command.opened(file) as source:
         if unfinished_beside(file, settings.unfinished) is None:
+            report = JudgedReport(named, beside, form, tally)
+            groups, texts = report.groups(source), report.texts(source)
+        elif source.seekable():
+            more = fitting_unfinished(NAME, file, source, settings.unfinished, encoding)
+            report = JudgedReport(named, beside, form, tally, more)
             groups, texts = report.groups(source), report.texts(source)
         else:
             items = items_with_unfinished(NAME, file, source, settings.unfinished, encoding)
+            report = JudgedReport(named, beside, form, tally)
             groups = report.groups_of(items)
             texts = report.texts_of(groups)
         if is_large(source):

@@ -32,7 +32,7 @@ def _without_blanks(statement: bytes) -> bytes:
     return b"".join(statement.split())
 
 
-# The statements that made the tables, also in older versions, and those of SQLite's ANALYZE.
+# The statements that made the tables, also in older versions, and the ones by which ANALYZE makes its own.
 _STATISTICS = "CREATE TABLE sqlite_stat1(tbl,idx,stat); CREATE TABLE sqlite_stat4(tbl,idx,neq,nlt,ndlt,sample)"
 _OWN = {
     _without_blanks(statement.encode("ascii"))

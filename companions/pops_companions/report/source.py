@@ -91,32 +91,49 @@ def items_with_unfinished(
     """Returns the items of a report that is open, with unfinished ones as `opened_unfinished_report` has
     them.
     """
-    named = unfinished is not None
-    unfinished = unfinished_beside(file, unfinished)
-    name = file or "standard input"
-    text = NamedText(companion, name, encoding)
-    items = text.whole(source, read_unfinished_report, unfinished is not None)
-    if unfinished is None:
-        return items
-    with command.opened(unfinished) as rest:
-        other = NamedText(companion, unfinished, encoding)
-        more = list(other.whole(rest, read_unfinished_report))
-    if source.seekable():
+    may_be_empty = unfinished_beside(file, unfinished) is not None
+    text = NamedText(companion, file or "standard input", encoding)
+    items = text.whole(source, read_unfinished_report, may_be_empty)
+    whole = list(items) if may_be_empty and not source.seekable() else None
+    more = fitting_unfinished(companion, file, source, unfinished, encoding, whole)
+    return merged_items(items if whole is None else whole, more)
+
+
+def fitting_unfinished(
+    companion: str,
+    file: Optional[str],
+    source: BinaryIO,
+    unfinished: Optional[str],
+    encoding: str,
+    whole: Optional[Sequence[AnyItem]] = None,
+) -> Sequence[AnyItem]:
+    """Returns the unfinished problems of a report that is open, by their numbers: none where a file beside it
+    doesn't fit. One that is named has to.
+
+    The report can be read again, unless its items are given.
+    """
+    beside = unfinished_beside(file, unfinished)
+    if beside is None:
+        return ()
+    with command.opened(beside) as rest:
+        other = NamedText(companion, beside, encoding)
+        more = sorted(other.whole(rest, read_unfinished_report), key=lambda item: item.number)
+    if whole is None:
         begin = source.tell()
         fits = _fit(_numbers_in(source), more)
         source.seek(begin)
     else:
-        whole = list(items)
-        fits, items = _fit((item.number for item in whole), more), iter(whole)
-    if fits:
-        more.sort(key=lambda item: item.number)
-        return iter(merge(items, more, key=lambda item: item.number))
-    if named:
-        message = (
-            f"--unfinished isn't of {name}: both have a problem, or a file holds several reports"
-        )
-        raise CommandError(Status.DEVICE, message)
-    return items
+        fits = _fit((item.number for item in whole), more)
+    if fits or unfinished is None:
+        return more if fits else ()
+    name = file or "standard input"
+    message = f"--unfinished isn't of {name}: both have a problem, or a file holds several reports"
+    raise CommandError(Status.DEVICE, message)
+
+
+def merged_items(items: Iterable[AnyItem], more: Sequence[AnyItem]) -> Iterator[AnyItem]:
+    """Returns items with more ones at the places of their numbers."""
+    return iter(merge(items, more, key=lambda item: item.number) if more else items)
 
 
 def _numbers_in(source: BinaryIO) -> Iterator[int]:

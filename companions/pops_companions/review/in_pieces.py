@@ -4,7 +4,7 @@ import os
 import re
 import stat
 from collections.abc import Iterator, Sequence
-from typing import BinaryIO, NamedTuple
+from typing import BinaryIO, NamedTuple, Optional
 
 from pops_companions.input.given import GivenProblem
 from pops_companions.show.titles import shown
@@ -32,10 +32,11 @@ class Place(NamedTuple):
 
 
 class Piece(NamedTuple):
-    """Some whole problems of a report, and where they begin."""
+    """Some whole problems of a report, where they begin, and the number of the last one, if it is known."""
 
     place: Place
     text: bytes
+    last: Optional[int] = None
 
     def chunks(self) -> Iterator[bytes]:
         """Yields the text as reading all of the report yields it."""
@@ -59,12 +60,19 @@ class Cutter:
     """Reads a report and cuts it. No piece ends between twins, unless each is judged by itself."""
 
     def __init__(
-        self, source: BinaryIO, given: Sequence[GivenProblem], encoding: str, apart: bool
+        self,
+        source: BinaryIO,
+        given: Sequence[GivenProblem],
+        encoding: str,
+        apart: bool,
+        has_gaps_filled: bool = False,
     ):
+        """`has_gaps_filled` says that problems which the report lacks are known, so that they may be twins."""
         self._source = source
         self._given = given
         self._encoding = encoding
         self._apart = apart
+        self._follow = bool(given) or has_gaps_filled
         self._text = bytearray()
         self._place = Place(0, 0, 0)
 
@@ -89,7 +97,7 @@ class Cutter:
         yield Piece(self._place, bytes(self._text))
 
     def _cut(self, end: int, last: int) -> Piece:
-        piece = Piece(self._place, bytes(self._text[:end]))
+        piece = Piece(self._place, bytes(self._text[:end]), last)
         del self._text[:end]
         offset, line, _ = self._place
         self._place = Place(offset + end, line + piece.text.count(b"\n"), last)
@@ -114,7 +122,7 @@ class Cutter:
         """
         if self._apart:
             return True
-        if self._given and int(after[1]) != int(before[1]) + 1:
+        if self._follow and int(after[1]) != int(before[1]) + 1:
             return False
         places = [label_and_title(it)[1].place for it in self._titles(after)]
         if any(it.endswith(_DUPLEX) for it in self._titles(before)):

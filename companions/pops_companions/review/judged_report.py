@@ -2,7 +2,8 @@
 
 import os
 import pickle
-from collections.abc import Callable, Iterable, Iterator
+from bisect import bisect
+from collections.abc import Callable, Iterable, Iterator, Sequence
 from functools import partial
 from itertools import chain, islice
 from typing import BinaryIO, NamedTuple, Optional
@@ -10,9 +11,9 @@ from typing import BinaryIO, NamedTuple, Optional
 from pops_companions.many.forked import Copies, can_fork
 from pops_companions.report.items import AnyItem
 from pops_companions.report.reader import pieces_of, read_unfinished_report
-from pops_companions.report.source import NamedText
+from pops_companions.report.source import NamedText, merged_items
 from pops_companions.review.beside import Beside, Course
-from pops_companions.review.in_pieces import Cutter, Piece, is_large
+from pops_companions.review.in_pieces import Cutter, Piece, Place, is_large
 from pops_companions.review.judged_groups import JudgedGroup, judged_groups
 from pops_companions.review.judgement_text import Tally
 from pops_companions.review.judging import Judgement
@@ -41,14 +42,27 @@ class _Known(NamedTuple):
 
 
 class JudgedReport:
-    """A report, with what is known beside it; `tally` counts its problems as they are judged."""
+    """A report, with what is known beside it; `tally` counts its problems as they are judged.
 
-    def __init__(self, report: NamedText, beside: Beside, form: Form, tally: Tally):
+    `more` are unfinished problems between its own, by their numbers; None where there can't be any.
+    """
+
+    def __init__(
+        self,
+        report: NamedText,
+        beside: Beside,
+        form: Form,
+        tally: Tally,
+        more: Optional[Sequence[AnyItem]] = None,
+    ):
         self._report = report
         self._beside = beside
         self._form = form
         self._tally = tally
         self._course = Course()
+        self._may_be_empty = more is not None
+        self._more = more or ()
+        self._numbers = [item.number for item in self._more]
 
     def groups_of(self, items: Iterator[AnyItem]) -> Iterator[JudgedGroup]:
         """Yields the problems of items that are read elsewhere."""
@@ -56,7 +70,7 @@ class JudgedReport:
 
     def groups(self, source: BinaryIO) -> Iterator[JudgedGroup]:
         """Yields all problems."""
-        return self._counted(self._judgements_to_end(pieces_of(source), 0))
+        return self._counted(self._judgements_to_end(pieces_of(source), Place(0, 0, 0)))
 
     def texts_of(self, groups: Iterator[JudgedGroup]) -> Iterator[bytes]:
         return (self._form.text_of(one).encode("utf-8", "replace") for one in groups)
@@ -66,7 +80,8 @@ class JudgedReport:
         processors = len(os.sched_getaffinity(0)) if can_fork() else 1
         if processors == 1 or not is_large(source):
             return self.texts_of(self.groups(source))
-        cutter = Cutter(source, self._beside.given, self._form.encoding, self._form.apart)
+        form = self._form
+        cutter = Cutter(source, self._beside.given, form.encoding, form.apart, bool(self._more))
         return self._texts_in_pieces(cutter, source, min(processors, _MOST_COPIES))
 
     def _texts_in_pieces(self, cutter: Cutter, source: BinaryIO, number: int) -> Iterator[bytes]:
@@ -96,7 +111,7 @@ class JudgedReport:
         pieces = chain(left, cutter.rests())
         first = next(pieces)
         chunks = chain.from_iterable(piece.chunks() for piece in chain([first], pieces))
-        judgements = self._judgements_to_end(chain(chunks, pieces_of(source)), first.place.line)
+        judgements = self._judgements_to_end(chain(chunks, pieces_of(source)), first.place)
         judged = list(islice(judgements, 1))
         yield held
         yield from self.texts_of(self._counted(chain(judged, judgements)))
@@ -105,7 +120,7 @@ class JudgedReport:
         """Returns what is known of a piece, with its texts."""
         self._course, self._tally = Course(piece.place.last), Tally()
         self._report.undecodable.clear()
-        items = self._items(piece.chunks(), piece.place.line)
+        items = self._items(piece.chunks(), piece.place, piece.last)
         judgements = self._beside.judgements_of_piece(items, self._course)
         texts = [*self.texts_of(self._counted(judgements)), *[b""] * self._form.apart]
         course, undecodable = self._course, self._report.undecodable
@@ -122,11 +137,16 @@ class JudgedReport:
         self._report.undecodable.extend(known.undecodable)
         return True
 
-    def _items(self, chunks: Iterable[bytes], line: int) -> Iterator[AnyItem]:
-        return self._report.items(chunks, partial(read_unfinished_report, line=line))
+    def _items(
+        self, chunks: Iterable[bytes], place: Place, last: Optional[int]
+    ) -> Iterator[AnyItem]:
+        """Yields the items from a place on, up to the last one's number, with the unfinished ones between."""
+        items = self._report.items(chunks, partial(read_unfinished_report, line=place.line))
+        end = len(self._more) if last is None else bisect(self._numbers, last)
+        return merged_items(items, self._more[bisect(self._numbers, place.last) : end])
 
-    def _judgements_to_end(self, chunks: Iterable[bytes], line: int) -> Iterator[Judgement]:
-        items = self._report.all_of(self._items(chunks, line))
+    def _judgements_to_end(self, chunks: Iterable[bytes], place: Place) -> Iterator[Judgement]:
+        items = self._report.all_of(self._items(chunks, place, None), self._may_be_empty)
         yield from self._beside.judgements_of_piece(items, self._course)
         yield from self._beside.missing_at_end(self._course)
 
