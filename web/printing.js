@@ -11,7 +11,7 @@ import { say } from './words.js';
 
 const MANY_LINES = 70;
 const MOST_LINES = 300;
-// The rows that are printed, of so many letters: some ten pages. (A browser lays them out at once, in a time that grows by the square.)
+// The rows that are printed, some ten pages, and the letters of one. (A browser lays them out at once, in a time that grows by the square.)
 const PRINTED_ROWS = 4000;
 const LETTERS_A_ROW = 25;
 

@@ -11,7 +11,7 @@ const MOST_UNDO_LETTERS = 1 << 25;
 // The most letters of a visit's texts for undo, and of its report.
 const MOST_STEP_LETTERS = 500000;
 const MOST_REPORT_LETTERS = 1000000;
-// A text has its name among so many letters at its beginning.
+// The letters at a text's beginning that have its name.
 const NAMED_LETTERS = 5000;
 // More letters of a title don't come into a file's name.
 const LONGEST_TITLE = 1000;
