@@ -6,6 +6,7 @@ import gc
 import io
 import os
 import re
+import select
 import stat
 import sys
 from collections.abc import Callable, Iterator, Sequence
@@ -246,7 +247,7 @@ class _Messages:
         try:
             yield
         except OSError:
-            _drop(self._target)
+            _drop(self._target.fileno())
 
     def __getattr__(self, name: str) -> Any:
         return getattr(self._target, name)
@@ -315,21 +316,28 @@ def _close_output() -> None:
         if sys.stdout is not None:
             sys.stdout.flush()
     except OSError:
-        _drop(sys.stdout)
+        _drop(sys.stdout.fileno())
 
 
-def drop_output() -> None:
-    """Drops what threads of a companion write to standard output from now on, also where one waits until
-    it is read.
+def drop_unread() -> None:
+    """Drops what a companion writes from now on to streams that take no more, since nobody reads them, also
+    where one of its threads waits for that.
     """
-    if sys.stdout is not None and interrupts.heeded():
-        _drop(sys.stdout)
-        interrupts.wake()
+    handles = set(files.devices)
+    for stream in filter(None, (sys.stdout, sys.stderr)):
+        with suppress(io.UnsupportedOperation):
+            handles.add(stream.fileno())
+    for handle in handles if interrupts.heeded() else ():
+        ready = select.poll()
+        ready.register(handle, select.POLLOUT)
+        if not ready.poll(0):
+            _drop(handle)
+            interrupts.wake()
 
 
-def _drop(stream: TextIO) -> None:
-    """Lets a stream take all, and drop it."""
-    os.dup2(os.open(os.devnull, os.O_WRONLY), stream.fileno())
+def _drop(handle: int) -> None:
+    """Lets an open file take all, and drop it."""
+    os.dup2(os.open(os.devnull, os.O_WRONLY), handle)
 
 
 def number_in(first: int, last: Optional[int] = None) -> Callable[[str], int]:

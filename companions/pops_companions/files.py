@@ -19,6 +19,8 @@ _OPEN_FILE = re.compile("/(?:dev|proc/([0-9]+)(?:/task/[0-9]+)?)/fd/([0-9]{1,9})
 _MOST_LINKS = 40
 # The bytes of the longest name that the systems take.
 _LONGEST_NAME = 255
+# The devices and pipes that are written just now, by the numbers of their open files.
+devices: set[int] = set()
 
 
 class Links(Enum):
@@ -96,7 +98,11 @@ def written_whole(
     """
     if links is Links.FOLLOWED and is_device(path):
         with _opened_device(path) as device:
-            yield device
+            devices.add(device.fileno())
+            try:
+                yield device
+            finally:
+                devices.discard(device.fileno())
         return
     real = real_of(path, links)
     before = _kept(real)

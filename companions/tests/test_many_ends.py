@@ -112,19 +112,22 @@ class Signals(SixProblems):
         self.assertEqual(run.returncode, 6)
 
     def test_a_reader_that_reads_nothing(self) -> None:
-        problems = self.room / "many.pop"
+        problems, fifo = self.room / "many.pop", self.room / "fifo"
         body = SIX.removeprefix(b"BeginProblem").removesuffix(b"EndProblem\n")
         problems.write_bytes(b"BeginProblem" + b"NextProblem".join([body] * 300) + b"EndProblem\n")
-        reading, writing = os.pipe()
-        self.addCleanup(os.close, reading)
-        self.addCleanup(os.close, writing)
-        words = [sys.executable, str(support.COMPANIONS / "pops-many"), "--pops", support.pops()]
-        words += ["--journal", str(self.journal), str(problems)]
-        with subprocess.Popen(words, stdout=writing, stderr=subprocess.PIPE) as run:
-            wait_for(lambda: not select.select([], [writing], [], 0)[1])
-            run.send_signal(signal.SIGTERM)
-            self.assertIn(b"stopped\n", run.communicate(timeout=support.PATIENCE)[1])
-        self.assertEqual(run.returncode, 6)
+        os.mkfifo(fifo)
+        pipes = {"standard output": os.pipe(), "a pipe with a name": (os.open(fifo, os.O_RDWR), os.open(fifo, os.O_WRONLY))}
+        for name, (reading, writing) in pipes.items():
+            self.addCleanup(os.close, reading)
+            self.addCleanup(os.close, writing)
+            words = [sys.executable, str(support.COMPANIONS / "pops-many"), "--pops", support.pops()]
+            words += ["--journal", str(self.journal), *(["-o", str(fifo)] if "name" in name else []), str(problems)]
+            with self.subTest(name), subprocess.Popen(words, stdout=writing, stderr=subprocess.PIPE) as run:
+                wait_for(lambda writing=writing: not select.select([], [writing], [], 0)[1])  # type: ignore[misc]
+                run.send_signal(signal.SIGTERM)
+                self.assertIn(b"stopped\n", run.communicate(timeout=support.PATIENCE)[1])
+                self.assertEqual(run.returncode, 6)
+            self.journal.unlink()
 
     def test_a_terminal_that_was_closed_takes_no_message_and_harms_nothing(self) -> None:
         terminal, other_side = pty.openpty()

@@ -8,7 +8,7 @@ from concurrent.futures import FIRST_COMPLETED, Future, ThreadPoolExecutor, wait
 from typing import TypeVar
 
 from pops_companions import interrupts
-from pops_companions.command import drop_output
+from pops_companions.command import drop_unread
 from pops_companions.many.bundles import Bundles
 from pops_companions.many.program import OutputRunError, Program, RunError
 from pops_companions.many.tasks import Result, Task
@@ -17,8 +17,8 @@ from pops_companions.many.tasks import Result, Task
 TRIES = 2
 # After this many seconds without an end signals are heeded, and `wait_on` is called: time passes.
 _SECONDS_OF_SILENCE = 0.5
-# The seconds that threads have to end, once they are stopped.
-_SECONDS_TO_END = 3.0
+# After this many seconds a thread that was stopped may wait for a reader of what it writes.
+_SECONDS_TO_END = 1.0
 Given = TypeVar("Given")
 Found = TypeVar("Found")
 
@@ -47,9 +47,8 @@ def in_threads(
                         wait_on()
         except BaseException:
             stop()
-            if wait(left, _SECONDS_TO_END).not_done:
-                # (nobody reads what one writes, it seems)
-                drop_output()
+            while wait(left, _SECONDS_TO_END).not_done:
+                drop_unread()
             raise
 
 
