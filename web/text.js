@@ -31,27 +31,22 @@ export const isShort = (word, full) => word.length >= 3 && word.length <= full.l
 const isTextCommand = command => command !== undefined && TEXT_LINES.includes(command);
 
 /**
- * Makes a function that reads a text and keeps its last result: the page reads one text many times. A long text and a short one are kept apart,
- * so that one of the others, as a kept problem, doesn't make the page read its long text again at once. `steps` reads step by step; `knows`
- * says whether a text is the one of its kind that was read last.
+ * Makes a function that reads a text and keeps its last result: the page reads one text many times. `steps` reads step by step; `knows` says
+ * whether a text is the one that was read last.
  * @template T
  * @param {(text: string) => Generator<void, T>} read
  */
 export function remembered(read) {
-  /** @type {Map<boolean, { text: string, made: T }>} by whether they are long */
-  const last = new Map();
-  const known = (/** @type {string} */ text) => {
-    const found = last.get(text.length >= LONG_TEXT);
-    return found?.text === text ? found : null;
-  };
+  /** @type {{ text: string, made: T } | null} */
+  let last = null;
   /** @param {string} text @returns {Generator<void, T>} */
   function* steps(text) {
-    const made = (known(text) ?? { made: yield* read(text) }).made;
+    if (last?.text !== text) last = { text, made: yield* read(text) };
     // (a string is compared with itself at once, with an equal one letter by letter)
-    last.set(text.length >= LONG_TEXT, { text, made });
-    return made;
+    last.text = text;
+    return last.made;
   }
-  return Object.assign((/** @type {string} */ text) => atOnce(steps(text)), { steps, knows: (/** @type {string} */ text) => known(text) !== null });
+  return Object.assign((/** @type {string} */ text) => atOnce(steps(text)), { steps, knows: (/** @type {string} */ text) => last?.text === text });
 }
 
 // The words of one step of reading.

@@ -110,12 +110,6 @@ test('store: links, kept texts, files', () => {
   assert.deepEqual(textOfBytes(Uint8Array.of(0xe9)), { text: 'é', isUtf8: false });
 });
 
-test('reading: a short text that is read meanwhile leaves a long one known', () => {
-  const long = TEXT + ' a'.repeat(50000);
-  for (const text of [long, TEXT]) blocksOf(text);
-  assert.deepEqual([long, TEXT, `${TEXT}\n`].map(blocksOf.knows), [true, true, false]);
-});
-
 test('store: undo and redo', () => {
   const steps = new Steps('a');
   steps.add('b');
