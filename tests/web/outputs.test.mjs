@@ -73,7 +73,7 @@ test('short: threats, several continuations, longer play, help play, no solution
 
 test('outputs: YAML', () => {
   assert.equal(yamlOf(TEXT, itemsOf(MORPHY)).text, [
-    '---', 'authors:', '  - "Morphy, Paul"', '  - "Another One"', 'title: "Mate in two"', 'source: "Here; There"', 'algebraic:',
+    '---', 'authors:', '  - "Morphy, Paul"', '  - "Another One"', 'title: "Mate in two"', 'source: "Here"', 'origins:', '  - "There"', 'algebraic:',
     '  white: [Kc8, Ra1, Pb6]', '  black: [Ka8, Bb8, Pa7, Pb7]', 'stipulation: "#2"', 'conditions: [Madrasi]', 'options:', '  - "SetPlay"', '  - "Variation"',
     '  - "MaxSolutions 3"', '  - "NoCastling a1h1"', 'intended-solutions: 1', 'comments:', '  - "\\"odd\\" & #1"', 'solution: |',
     '  1.Ra1-a6 ! zugzwang.', '      1...b7*a6', '          2.b6-b7 #', '      1...Bb8-h2', '          2.Ra6*a7 #', '      1...Bb8-g3', '          2.Ra6*a7 #', '',

@@ -13,7 +13,7 @@ from pops_companions.input.words import LONGEST_WORD, TEXT_WORDS, Span, TextLine
 _LONGEST_QUOTED = 48
 # The word before is looked for in this many bytes.
 _NEAR = 400
-_LAST_WORD = re.compile(rb"(?<![^\t\n\x0b\x0c\r ])([^\t\n\x0b\x0c\r ]+)[\t\n\x0b\x0c\r ]+$")
+_LAST_WORD = re.compile(rb"(?:^|[\t\n\x0b\x0c\r ])([^\t\n\x0b\x0c\r ]+)([\t\n\x0b\x0c\r ]+)$")
 NAMES = (*COMMANDS, *TEXT_WORDS, *CONDITIONS, *OPTIONS, "White", "Black")
 Value = TypeVar("Value")
 
@@ -83,7 +83,8 @@ class Case:
         found = _LAST_WORD.search(self.text[start : self.word.start])
         if found is None:
             return None
-        return Span(start + found.start(), start + found.start() + len(found[1]))
+        stop = start + found.end() - len(found[2])
+        return Span(stop - len(found[1]), stop)
 
     @property
     def line_above(self) -> Optional[TextLine]:

@@ -26,7 +26,7 @@ STYLE = stored_text("show/page.css")
 _LINES_OF_A_COLUMN = 20
 
 # A word that a browser would break at its hyphen: a move, with its number where it has one.
-_MOVE = re.compile(r"(?<![^\s-])[^\s-]+-\S+")
+_MOVE = re.compile(r"(^|[\s-])([^\s-]+-\S+)")
 
 
 def _safe(text: str) -> str:
@@ -189,7 +189,7 @@ class Page:
         )
 
     def _phase(self, phase: Phase) -> str:
-        lines = _MOVE.sub(r"<span>\g<0></span>", _safe("\n".join(phase.lines)))
+        lines = _MOVE.sub(r"\g<1><span>\g<2></span>", _safe("\n".join(phase.lines)))
         many = ' class="many"' if len(phase.lines) > _LINES_OF_A_COLUMN else ""
         solutions = f"<pre{many}>{lines}</pre>\n" if phase.lines else ""
         total = ""
