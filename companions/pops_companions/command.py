@@ -6,7 +6,6 @@ import gc
 import io
 import os
 import re
-import select
 import stat
 import sys
 from collections.abc import Callable, Iterator, Sequence
@@ -247,7 +246,7 @@ class _Messages:
         try:
             yield
         except OSError:
-            _drop(self._target.fileno())
+            files.drop(self._target.fileno())
 
     def __getattr__(self, name: str) -> Any:
         return getattr(self._target, name)
@@ -316,28 +315,7 @@ def _close_output() -> None:
         if sys.stdout is not None:
             sys.stdout.flush()
     except OSError:
-        _drop(sys.stdout.fileno())
-
-
-def drop_unread() -> None:
-    """Drops what a companion writes from now on to streams that take no more, since nobody reads them, also
-    where one of its threads waits for that.
-    """
-    handles = set(files.devices)
-    for stream in filter(None, (sys.stdout, sys.stderr)):
-        with suppress(io.UnsupportedOperation):
-            handles.add(stream.fileno())
-    for handle in handles if interrupts.heeded() else ():
-        ready = select.poll()
-        ready.register(handle, select.POLLOUT)
-        if not ready.poll(0):
-            _drop(handle)
-            interrupts.wake()
-
-
-def _drop(handle: int) -> None:
-    """Lets an open file take all, and drop it."""
-    os.dup2(os.open(os.devnull, os.O_WRONLY), handle)
+        files.drop(sys.stdout.fileno())
 
 
 def number_in(first: int, last: Optional[int] = None) -> Callable[[str], int]:

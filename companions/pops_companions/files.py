@@ -3,6 +3,7 @@
 import errno
 import os
 import re
+import select
 import stat
 import sys
 from collections.abc import Iterator
@@ -83,6 +84,25 @@ def unfinished_name(real: str, end: Optional[str] = None) -> str:
     while len(os.fsencode(name + end)) > _LONGEST_NAME:
         name = name[:-1]
     return os.path.join(folder, name + end)
+
+
+def drop(handle: int) -> None:
+    """Lets an open file take all, and drop it."""
+    os.dup2(os.open(os.devnull, os.O_WRONLY), handle)
+
+
+def drop_unread() -> bool:
+    """Drops what is written from now on to devices, pipes and standard streams that take no more, since nobody
+    reads them; returns whether there are any.
+    """
+    handles = set(devices)
+    for stream in filter(None, (sys.stdout, sys.stderr)):
+        with suppress(OSError, ValueError):
+            handles.add(stream.fileno())
+    full = [it for it in handles if not select.select([], [it], [], 0)[1]]
+    for handle in full:
+        drop(handle)
+    return bool(full)
 
 
 @contextmanager

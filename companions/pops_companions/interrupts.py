@@ -2,8 +2,9 @@
 
 A signal raises at once, but in blocks that take locks, or begin and end what has to be ended: there it is
 only noted, and raised where they end. So no lock stays taken, and nothing has begun of which nobody knows.
-Only the first signal raises: none breaks off the cleaning up. Without `begin`, as where these modules are
-used as a library or in another thread than the main one, nothing differs.
+Only the first signal raises: none breaks off the cleaning up. That doesn't wait for streams that nobody
+reads. Without `begin`, as where these modules are used as a library or in another thread than the main one,
+nothing differs.
 """
 
 import signal
@@ -12,10 +13,12 @@ import threading
 from collections.abc import Callable, Iterator
 from contextlib import AbstractContextManager, contextmanager, suppress
 
+from pops_companions import files
+
 # The signals that end a companion in order, but for one that is ignored, as by nohup.
 SIGNALS = (signal.SIGINT, signal.SIGTERM, signal.SIGHUP)
-# After this many seconds a signal is raised again that Python dropped.
-_MOMENT = 0.05
+# After a signal was raised, so many seconds pass between two looks at what may keep a run from its end.
+_MOMENT = 1.0
 
 
 class _Run:
@@ -23,11 +26,18 @@ class _Run:
 
     has_come = is_held = is_raised = False
 
-    def heed(self, *_: object) -> None:
+    def heed(self) -> None:
         """Raises the signal that has come, if it may be raised now."""
         if self.has_come and not self.is_held and not self.is_raised:
             self.is_raised = True
+            signal.setitimer(signal.ITIMER_REAL, _MOMENT, _MOMENT)
             raise KeyboardInterrupt
+
+    def look(self, *_: object) -> None:
+        """Raises a signal again that Python dropped; drops what is written where nobody reads it."""
+        self.heed()
+        if self.is_raised and files.drop_unread():
+            _wake()
 
     def come(self, *_: object) -> None:
         self.has_come = True
@@ -39,7 +49,6 @@ class _Run:
             sys.__unraisablehook__(what)
             return
         self.is_raised = False
-        signal.setitimer(signal.ITIMER_REAL, _MOMENT)
 
 
 _run = _Run()
@@ -58,7 +67,7 @@ def begin() -> None:
     for sign in SIGNALS:
         if signal.getsignal(sign) not in (signal.SIG_IGN, None):
             signal.signal(sign, _run.come)
-    signal.signal(signal.SIGALRM, _run.heed)
+    signal.signal(signal.SIGALRM, _run.look)
     sys.unraisablehook = _run.drop
 
 
@@ -68,14 +77,14 @@ def end() -> None:
         signal.pthread_sigmask(signal.SIG_BLOCK, (*SIGNALS, signal.SIGALRM))
 
 
-def heeded() -> list[signal.Signals]:
-    """Returns the signals that raise."""
-    return [sign for sign in SIGNALS if signal.getsignal(sign) == _run.come]
+def is_raised() -> bool:
+    """Returns whether a signal was raised, also where a library has caught it."""
+    return _run.is_raised
 
 
-def wake() -> None:
-    """Lets each thread that waits in a call of the system try it again, if signals raise."""
-    for thread in threading.enumerate() if heeded() else ():
+def _wake() -> None:
+    """Lets each thread that waits in a call of the system try it again."""
+    for thread in threading.enumerate():
         if thread.ident is not None and thread is not threading.main_thread():
             # (it may have ended just now)
             with suppress(ProcessLookupError):

@@ -4,6 +4,7 @@ import errno
 import os
 import re
 import runpy
+import select
 import signal
 import subprocess
 import sys
@@ -19,6 +20,7 @@ from unittest import mock
 
 from pops_companions.command import OneOf, Settings, flag, option, word
 from tests import run_here, support
+from tests.six_problems import wait_for
 
 # More than a pipe holds, as a page, as JSON and as problems.
 REPORT = b"problem 1\ntitle: A title\n#1\nplay\n1.Ra1-a8#\nsolutions: 1\n\n" * 2_000
@@ -428,6 +430,24 @@ class Ends(unittest.TestCase):
             ignoring = f"trap '' INT; PYTHONPATH='{room}' exec '{script}' --version"
             outcome = support.run(["/bin/sh", "-c", ignoring])
         self.assertEqual((outcome.status, outcome.error), (0, ""))
+
+    def test_a_signal_while_nobody_reads(self) -> None:
+        """What waits for a reader is dropped, in any stream."""
+        with tempfile.TemporaryDirectory() as room:
+            fifo = f"{room}/fifo"
+            os.mkfifo(fifo)
+            for command in ("command.write(None, bytes(1 << 20))", f"command.write('{fifo}', bytes(1 << 20))", "print('x' * (1 << 20))"):
+                reading, writing = (os.open(fifo, os.O_RDWR), os.open(fifo, os.O_WRONLY)) if fifo in command else os.pipe()
+                lines = [f"import sys; sys.path.insert(0, {str(support.COMPANIONS)!r}); from pops_companions import command"]
+                lines += [f"def main(words):\n    {command}\n    sys.stdout.flush()", "command.run('it', main)"]
+                words = [sys.executable, "-c", "\n".join(lines)]
+                with self.subTest(command), subprocess.Popen(words, stdout=writing, stderr=subprocess.PIPE) as run:
+                    wait_for(lambda writing=writing: not select.select([], [writing], [], 0)[1])  # type: ignore[misc]
+                    run.send_signal(signal.SIGTERM)
+                    self.assertEqual(run.communicate(timeout=support.PATIENCE)[1], b"it: stopped\n")
+                    self.assertEqual(run.returncode, 6)
+                os.close(reading)
+                os.close(writing)
 
     def test_an_interrupt_before_a_command_is_loaded(self) -> None:
         outcome = self.ended(

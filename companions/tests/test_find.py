@@ -410,6 +410,19 @@ class Command(support.InRoom):
         self.assertEqual(outcome.status, 0 if b"problem " in outcome.output else 1)
         return outcome.output.count(b", problem ")
 
+    def test_a_signal_in_what_sqlite_calls(self) -> None:
+        self.added("morphy_1856.pop")
+        lines = [
+            f"import os, signal, sys; sys.path.insert(0, {str(support.COMPANIONS)!r})",
+            "from pops_companions import start",
+            "from pops_companions.find import collection",
+            "collection._folded = lambda text: os.kill(os.getpid(), signal.SIGTERM)",
+            f"sys.argv = ['pops-find', {self.path!r}, '--author', 'morphy']",
+            "start.find()",
+        ]
+        outcome = support.run([sys.executable, "-c", "\n".join(lines)])
+        self.assertEqual(outcome, (6, b"", "pops-find: stopped\n"))
+
     def test_words_and_men(self) -> None:
         self.added("excelsior_1861.pop", "morphy_1856.pop", "help_mate.pop", "circe.pop")
         for words, number in (

@@ -142,6 +142,16 @@ class Signals(SixProblems):
 
 
 class Journals(SixProblems):
+    @unittest.skipIf(os.geteuid(), "only the superuser gives files away")
+    def test_a_journal_of_another_user(self) -> None:
+        self.many(self.stand_in("kill -9 $$"))
+        os.chown(self.journal, 65534, -1)
+        kept = self.journal.read_bytes()
+        outcome = self.many(support.pops(), "--resume")
+        said = f"pops-many: {self.journal} is another user's: remove it, or name another journal\n"
+        self.assertEqual(outcome, (2, b"", said))
+        self.assertEqual(self.journal.read_bytes(), kept)
+
     def test_resuming_without_a_journal_is_a_mistake(self) -> None:
         outcome = self.many(self.stand_in(":"), "--resume")
         self.assertEqual(

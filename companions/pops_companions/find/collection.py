@@ -14,6 +14,7 @@ from contextlib import closing, contextmanager
 from dataclasses import astuple, dataclass, field, fields
 from typing import Any, NamedTuple, NoReturn, Optional
 
+from pops_companions import interrupts
 from pops_companions.chess.men import Man, Square
 from pops_companions.files import is_device
 from pops_companions.find.boards import (
@@ -162,10 +163,11 @@ class Collection:
 
     def reason(self, error: sqlite3.Error) -> str:
         """Returns why a question failed. KeyboardInterrupt where a signal ended it."""
+        # (it may have come in a function that SQLite calls)
+        if interrupts.is_raised():
+            raise KeyboardInterrupt
         if str(error) != "interrupted":
             return str(error)
-        if self._left >= 0:
-            raise KeyboardInterrupt
         return "it is damaged: a question has no end"
 
     def _add_keywords(self, path: str) -> None:

@@ -131,6 +131,13 @@ def _report_of(result: Result) -> list[_Report]:
     return [result.report, memoryview(file)[result.skipped :]]
 
 
+def _why_foreign(known: os.stat_result) -> Optional[str]:
+    """Returns why a file isn't one that a run of this user made: another could have written anything in it."""
+    if not stat.S_ISREG(known.st_mode):
+        return "a device or a pipe: a journal is a file"
+    return None if known.st_uid == os.geteuid() else "another user's: remove it, or name another journal"
+
+
 class Journal:
     """An open journal, new or of a run that goes on. `tasks` is how many tasks the run has, `seconds` the
     time limit of each problem.
@@ -156,9 +163,9 @@ class Journal:
         self._head = b"%s%s %s\n" % (_HEAD, *origin)
         # (it has the reports, whoever may read the file that they are for)
         opened = os.open(path, _OPEN | (0 if resume else os.O_CREAT), 0o600)
-        if not stat.S_ISREG(os.fstat(opened).st_mode):
+        if foreign := _why_foreign(os.fstat(opened)):
             os.close(opened)
-            raise JournalError(f"{path} is a device or a pipe: a journal is a file")
+            raise JournalError(f"{path} is {foreign}")
         self._file = os.fdopen(opened, "r+b")
         try:
             self._begin(resume)

@@ -4,11 +4,10 @@ import threading
 import time
 from collections import deque
 from collections.abc import Callable, Iterable, Sequence
-from concurrent.futures import FIRST_COMPLETED, Future, ThreadPoolExecutor, wait
+from concurrent.futures import FIRST_COMPLETED, ThreadPoolExecutor, wait
 from typing import TypeVar
 
 from pops_companions import interrupts
-from pops_companions.command import drop_unread
 from pops_companions.many.bundles import Bundles
 from pops_companions.many.program import OutputRunError, Program, RunError
 from pops_companions.many.tasks import Result, Task
@@ -17,8 +16,6 @@ from pops_companions.many.tasks import Result, Task
 TRIES = 2
 # After this many seconds without an end signals are heeded, and `wait_on` is called: time passes.
 _SECONDS_OF_SILENCE = 0.5
-# After this many seconds a thread that was stopped may wait for a reader of what it writes.
-_SECONDS_TO_END = 1.0
 Given = TypeVar("Given")
 Found = TypeVar("Found")
 
@@ -35,7 +32,6 @@ def in_threads(
     Signals are heeded between short waits: one that broke off a wait could leave locks taken.
     """
     with interrupts.held() as as_before, ThreadPoolExecutor(max(number, 1)) as threads:
-        left: set[Future[None]] = set()
         try:
             left = {threads.submit(work) for _ in range(number)}
             while left:
@@ -47,8 +43,6 @@ def in_threads(
                         wait_on()
         except BaseException:
             stop()
-            while wait(left, _SECONDS_TO_END).not_done:
-                drop_unread()
             raise
 
 
