@@ -117,12 +117,15 @@ def written_whole(
     an earlier run left under that name is removed.
     """
     if links is Links.FOLLOWED and is_device(path):
-        with _opened_device(path) as device:
-            devices.add(device.fileno())
-            try:
+        device = _opened_device(path)
+        handle = device.fileno()
+        devices.add(handle)
+        try:
+            with device:
                 yield device
-            finally:
-                devices.discard(device.fileno())
+        finally:
+            # (what it holds is written as it is closed)
+            devices.discard(handle)
         return
     real = real_of(path, links)
     before = _kept(real)

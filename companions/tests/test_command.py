@@ -436,10 +436,10 @@ class Ends(unittest.TestCase):
         with tempfile.TemporaryDirectory() as room:
             fifo = f"{room}/fifo"
             os.mkfifo(fifo)
-            for command in ("command.write(None, bytes(1 << 20))", f"command.write('{fifo}', bytes(1 << 20))", "print('x' * (1 << 20))"):
+            for command in ("while True: print('x' * 60)", f"with command.written('{fifo}') as it:\n        while True: it.write(bytes(60))"):
                 reading, writing = (os.open(fifo, os.O_RDWR), os.open(fifo, os.O_WRONLY)) if fifo in command else os.pipe()
                 lines = [f"import sys; sys.path.insert(0, {str(support.COMPANIONS)!r}); from pops_companions import command"]
-                lines += [f"def main(words):\n    {command}\n    sys.stdout.flush()", "command.run('it', main)"]
+                lines += [f"def main(words):\n    {command}", "command.run('it', main)"]
                 words = [sys.executable, "-c", "\n".join(lines)]
                 with self.subTest(command), subprocess.Popen(words, stdout=writing, stderr=subprocess.PIPE) as run:
                     wait_for(lambda writing=writing: not select.select([], [writing], [], 0)[1])  # type: ignore[misc]
