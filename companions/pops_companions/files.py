@@ -99,10 +99,16 @@ def drop_unread() -> bool:
     for stream in filter(None, (sys.stdout, sys.stderr)):
         with suppress(OSError, ValueError):
             handles.add(stream.fileno())
-    full = [it for it in handles if not select.select([], [it], [], 0)[1]]
+    full = [it for it in handles if not _takes_more(it)]
     for handle in full:
         drop(handle)
     return bool(full)
+
+
+def _takes_more(handle: int) -> bool:
+    ready = select.poll()
+    ready.register(handle, select.POLLOUT)
+    return bool(ready.poll(0))
 
 
 @contextmanager

@@ -36,8 +36,9 @@ class _Run:
     def look(self, *_: object) -> None:
         """Raises a signal again that Python dropped; drops what is written where nobody reads it."""
         self.heed()
-        if self.is_raised and files.drop_unread():
-            _wake()
+        with suppress(OSError):
+            if self.is_raised and files.drop_unread():
+                _wake()
 
     def come(self, *_: object) -> None:
         self.has_come = True
