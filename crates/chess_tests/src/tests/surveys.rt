@@ -66,44 +66,47 @@ const LINES: [Row<'static>; 3] = [
     ),
 ];
 
-const EN_PASSANT: [Row<'static>; 1] = [(
-    "en passant",
-    &EACH,
-    Family::EnPassant,
-    1_500,
-    &[
-        Motif::EnPassant,
-        Motif::EnPassantOpensRank,
-        Motif::EnPassantOpensLine,
-        Motif::EnPassantParries,
-        Motif::EnPassantUncovers,
-        Motif::EnPassantMates,
-    ],
-    5,
-)];
+// En passant captures and promotions.
+const PAWNS: [Row<'static>; 2] = [
+    (
+        "en passant",
+        &EACH,
+        Family::EnPassant,
+        1_500,
+        &[
+            Motif::EnPassant,
+            Motif::EnPassantOpensRank,
+            Motif::EnPassantOpensLine,
+            Motif::EnPassantParries,
+            Motif::EnPassantUncovers,
+            Motif::EnPassantMates,
+        ],
+        5,
+    ),
+    (
+        "promotions",
+        &EACH,
+        Family::Promotions,
+        600,
+        &[
+            Motif::PromotionChecks(Kind::Queen),
+            Motif::PromotionChecks(Kind::Rook),
+            Motif::PromotionChecks(Kind::Bishop),
+            Motif::PromotionChecks(Kind::Knight),
+            Motif::PromotionChecks(Kind::Grasshopper),
+            Motif::PromotionChecks(Kind::Nightrider),
+            Motif::PromotionMates(Kind::Queen),
+            Motif::PromotionMates(Kind::Rook),
+            Motif::PromotionParries,
+            Motif::Exposes(Kind::Pawn),
+            Motif::Mates,
+        ],
+        3,
+    ),
+];
 
-const PROMOTIONS: [Row<'static>; 1] = [(
-    "promotions",
-    &EACH,
-    Family::Promotions,
-    600,
-    &[
-        Motif::PromotionChecks(Kind::Queen),
-        Motif::PromotionChecks(Kind::Rook),
-        Motif::PromotionChecks(Kind::Bishop),
-        Motif::PromotionChecks(Kind::Knight),
-        Motif::PromotionChecks(Kind::Grasshopper),
-        Motif::PromotionChecks(Kind::Nightrider),
-        Motif::PromotionMates(Kind::Queen),
-        Motif::PromotionMates(Kind::Rook),
-        Motif::PromotionParries,
-        Motif::Exposes(Kind::Pawn),
-        Motif::Mates,
-    ],
-    3,
-)];
-
-const CASTLING: [Row<'static>; 2] = [
+// Kings that castle, flee, are mated or are missing.
+const KINGS: [Row<'static>; 7] = [
     (
         "castling",
         &EACH,
@@ -127,10 +130,6 @@ const CASTLING: [Row<'static>; 2] = [
         &[Motif::Castles, Motif::CastlingChecks, Motif::CastlingMates],
         20,
     ),
-];
-
-// Kings that flee, are covered or are missing.
-const KINGS: [Row<'static>; 4] = [
     (
         "steps along a line",
         &EACH,
@@ -165,6 +164,20 @@ const KINGS: [Row<'static>; 4] = [
         20,
     ),
     (
+        "mates by pawns and kings",
+        &EACH,
+        Family::Nooks,
+        800,
+        &[
+            Motif::StepMates,
+            Motif::DoubleStepMates,
+            Motif::CaptureMates,
+            Motif::UncoversMate(Kind::Pawn),
+            Motif::UncoversMate(Kind::King),
+        ],
+        5,
+    ),
+    (
         "missing kings",
         &EACH,
         Family::MissingKings,
@@ -174,23 +187,8 @@ const KINGS: [Row<'static>; 4] = [
     ),
 ];
 
-const MATES_BY_PAWNS_AND_KINGS: [Row<'static>; 1] = [(
-    "mates by pawns and kings",
-    &EACH,
-    Family::Nooks,
-    800,
-    &[
-        Motif::StepMates,
-        Motif::DoubleStepMates,
-        Motif::CaptureMates,
-        Motif::UncoversMate(Kind::Pawn),
-        Motif::UncoversMate(Kind::King),
-    ],
-    5,
-)];
-
-// Motifs of Circe only.
-const CIRCE: [Row<'static>; 4] = [
+// Motifs of Circe and Madrasi only.
+const CONDITIONS: [Row<'static>; 7] = [
     (
         "rebirths",
         &[Rule::Circe],
@@ -232,10 +230,6 @@ const CIRCE: [Row<'static>; 4] = [
         &[Motif::RebirthMates, Motif::RebirthParriesMate],
         3,
     ),
-];
-
-// Motifs of Madrasi only.
-const MADRASI: [Row<'static>; 3] = [
     (
         "paralysis",
         &[Rule::Madrasi],
@@ -322,18 +316,8 @@ fn lines(rt: HostRuntime) {
 }
 
 #[test]
-fn en_passant(rt: HostRuntime) {
-    agree(&rt, &EN_PASSANT);
-}
-
-#[test]
-fn promotions(rt: HostRuntime) {
-    agree(&rt, &PROMOTIONS);
-}
-
-#[test]
-fn castling(rt: HostRuntime) {
-    agree(&rt, &CASTLING);
+fn pawns(rt: HostRuntime) {
+    agree(&rt, &PAWNS);
 }
 
 #[test]
@@ -342,18 +326,8 @@ fn kings(rt: HostRuntime) {
 }
 
 #[test]
-fn mates_by_pawns_and_kings(rt: HostRuntime) {
-    agree(&rt, &MATES_BY_PAWNS_AND_KINGS);
-}
-
-#[test]
-fn circe(rt: HostRuntime) {
-    agree(&rt, &CIRCE);
-}
-
-#[test]
-fn madrasi(rt: HostRuntime) {
-    agree(&rt, &MADRASI);
+fn conditions(rt: HostRuntime) {
+    agree(&rt, &CONDITIONS);
 }
 
 #[test]
