@@ -20,7 +20,7 @@ _OPEN_FILE = re.compile("/(?:dev|proc/([0-9]+)(?:/task/[0-9]+)?)/fd/([0-9]{1,9})
 _MOST_LINKS = 40
 # The bytes of the longest name that the systems take.
 _LONGEST_NAME = 255
-# The devices and pipes that are written just now, by the numbers of their open files.
+# The open files of devices and pipes that are being written, by their numbers.
 devices: set[int] = set()
 
 

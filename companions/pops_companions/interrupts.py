@@ -17,7 +17,7 @@ from pops_companions import files
 
 # The signals that end a companion in order, but for one that is ignored, as by nohup.
 SIGNALS = (signal.SIGINT, signal.SIGTERM, signal.SIGHUP)
-# Once a signal was raised: the seconds between two looks at what may keep the run from its end.
+# Once a signal was raised, the seconds between two looks at what may keep the run from its end.
 _MOMENT = 1.0
 
 

@@ -163,7 +163,7 @@ class Collection:
 
     def reason(self, error: sqlite3.Error) -> str:
         """Returns why a question failed. KeyboardInterrupt where a signal ended it."""
-        # (it may have come in a function that SQLite calls)
+        # (SQLite hides a signal that came in a function that it calls)
         if interrupts.is_raised():
             raise KeyboardInterrupt
         if str(error) != "interrupted":
